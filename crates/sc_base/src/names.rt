@@ -1,0 +1,42 @@
+//! Places in a source, fixed-point numbers, wire classes and gate names.
+
+/// Where something stands in a source. Line and column count from 1; the column counts bytes.
+#[derive(Clone, Copy, Debug, PartialEq, Eq)]
+pub struct Place {
+    pub line: u32,
+    pub column: u32,
+}
+
+/// A `double` of the language: a whole number of units of 10^-12.
+#[derive(Clone, Copy, Debug, PartialEq, Eq)]
+pub struct Fixed(pub i64);
+
+/// What a wire carries: a qubit or a classical bit.
+#[derive(Clone, Copy, Debug, PartialEq, Eq)]
+pub enum Class {
+    Q,
+    C,
+}
+
+/// The gates of the language. This order is the order of kinds in every list and text.
+#[derive(Clone, Copy, Debug, PartialEq, Eq)]
+pub enum GateName {
+    X,
+    Y,
+    Z,
+    H,
+    S,
+    T,
+    Sdag,
+    Tdag,
+    Cnot,
+    Toffoli,
+    Fredkin,
+    Rx,
+    Ry,
+    Rz,
+    PrepX,
+    PrepZ,
+    MeasX,
+    MeasZ,
+}

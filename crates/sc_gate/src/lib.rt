@@ -1,0 +1,6 @@
+//! Wires and gates.
+#![tactic(auto)]
+
+mod gate;
+
+pub use gate::{Gate, Kind, Wire};

@@ -1,0 +1,12 @@
+//! Tokens and trees of the language.
+#![tactic(auto)]
+
+mod token;
+mod tree;
+
+pub use token::{Mark, Token, TokenSort, Word};
+pub use tree::{
+    Act, BinOp, Bind, Call, Callee, Decl, Expr, Init, Link, Measure, Module, Name, Node, NumSort,
+    Operand, Param, Part, Set, SetOp, ShiftLink, Sort, Source, Stmt, UnOp, Width, WordExpr, WordFn,
+    WordLink, WordNode, WordOp, WordParam,
+};
