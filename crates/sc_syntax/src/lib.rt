@@ -4,7 +4,7 @@
 mod token;
 mod tree;
 
-pub use token::{Mark, Token, TokenSort, Word};
+pub use token::{Mark, Token, TokenSort, Tokens, Word};
 pub use tree::{
     Act, BinOp, Bind, Call, Callee, Decl, Expr, Init, Link, Measure, Module, Name, Node, NumSort,
     Operand, Param, Part, Set, SetOp, ShiftLink, Sort, Source, Stmt, UnOp, Width, WordExpr, WordFn,

@@ -1,0 +1,34 @@
+-- Lists of tokens that were read from a source.
+use Rattle.std.specs.Prelude.{ℕ, ◌≤◌, ◌≤ℤ◌, pos, List, length, slice_range, All}
+use Rattle.sc_syntax.specs.declared.token.Token.{Token}
+use Rattle.sc_syntax.specs.declared.token.TokenSort.{TokenSort}
+use Rattle.sc_syntax.specs.declared.token.TokenSort.TheVariants.{Word, Gate, Name, Int, Decimal, Mark}
+use Rattle.sc_syntax.specs.Words.{IsName}
+
+-- how many tokens a source may have
+abbrev pub most_tokens : ℕ
+most_tokens = 4194304
+
+-- the slice of the source that the token was read from
+abbrev pub text_of : List ℕ → Token → List ℕ
+text_of source token = slice_range source token.start token.end
+
+-- a name was read from a name, and a number is at least 0
+abbrev pub FitsText : TokenSort → List ℕ → Type 0
+FitsText Name text = IsName text
+FitsText (Int n) text = pos 0 ≤ℤ n
+FitsText (Decimal d) text = pos 0 ≤ℤ d.0
+FitsText (Word w) text = Unit {0}
+FitsText (Gate g) text = Unit {0}
+FitsText (Mark m) text = Unit {0}
+
+-- the token's slice lies in the source, and fits the token
+pub record IsRead (source : List ℕ) (token : Token) : Type 0 where
+  pub ordered : token.start ≤ token.end
+  pub within : token.end ≤ length source
+  pub fits : FitsText token.sort (text_of source token)
+
+-- tokens as the lexer hands them on: each fits its slice of the source, and they are no more than a source may have
+pub record AreRead (source : List ℕ) (tokens : List Token) : Type 0 where
+  pub each : All (IsRead source) tokens
+  pub count : length tokens ≤ most_tokens
