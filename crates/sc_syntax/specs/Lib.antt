@@ -1,4 +1,5 @@
 pub mod Bytes
-pub mod Tables
-pub mod Words
+pub mod Names
+pub mod Reserved
+pub mod Spaces
 pub mod TokenLists

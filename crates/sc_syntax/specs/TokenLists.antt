@@ -3,7 +3,7 @@ use Rattle.std.specs.Prelude.{ℕ, ◌≤◌, ◌≤ℤ◌, pos, List, length, s
 use Rattle.sc_syntax.specs.declared.token.Token.{Token}
 use Rattle.sc_syntax.specs.declared.token.TokenSort.{TokenSort}
 use Rattle.sc_syntax.specs.declared.token.TokenSort.TheVariants.{Word, Gate, Name, Int, Decimal, Mark}
-use Rattle.sc_syntax.specs.Words.{IsName}
+use Rattle.sc_syntax.specs.Names.{IsName}
 
 -- how many tokens a source may have
 abbrev pub most_tokens : ℕ
