@@ -1,0 +1,70 @@
+-- Names, operands and well-formed gates.
+use Rattle.std.specs.Prelude.{◌≡◌, ◌≢◌, ℕ, Bool, true, false, IsSome, List, [], ◌∷◌, ◌++◌, map, replicate, option_to_list, ◌⊎◌}
+use Rattle.sc_base.specs.declared.names.Class.{Class}
+use Rattle.sc_base.specs.declared.names.Class.TheVariants.{Q, C}
+use Rattle.sc_base.specs.declared.names.GateName.{GateName}
+use Rattle.sc_base.specs.declared.names.GateName.TheVariants as name
+use Rattle.sc_gate.specs.declared.gate.Wire.{Wire}
+use Rattle.sc_gate.specs.declared.gate.Kind.{Kind}
+use Rattle.sc_gate.specs.declared.gate.Kind.TheVariants as kind
+use Rattle.sc_gate.specs.declared.gate.Gate.{Gate}
+
+-- the name of a kind, without its angle or start value
+abbrev pub name_of : Kind → GateName
+name_of kind.X = name.X
+name_of kind.Y = name.Y
+name_of kind.Z = name.Z
+name_of kind.H = name.H
+name_of kind.S = name.S
+name_of kind.T = name.T
+name_of kind.Sdag = name.Sdag
+name_of kind.Tdag = name.Tdag
+name_of kind.Cnot = name.Cnot
+name_of kind.Toffoli = name.Toffoli
+name_of kind.Fredkin = name.Fredkin
+name_of (kind.Rx angle) = name.Rx
+name_of (kind.Ry angle) = name.Ry
+name_of (kind.Rz angle) = name.Rz
+name_of (kind.PrepX start) = name.PrepX
+name_of (kind.PrepZ start) = name.PrepZ
+name_of kind.MeasX = name.MeasX
+name_of kind.MeasZ = name.MeasZ
+
+-- how many qubits a gate of this name has
+abbrev pub qubits_of : GateName → ℕ
+qubits_of name.Cnot = 2
+qubits_of name.Toffoli = 3
+qubits_of name.Fredkin = 3
+qubits_of _ = 1
+
+abbrev pub is_measurement : GateName → Bool
+is_measurement name.MeasX = true
+is_measurement name.MeasZ = true
+is_measurement _ = false
+
+-- the operands, in the order a, b, c
+abbrev pub operands : Gate → List Wire
+operands gate = gate.a ∷ (option_to_list gate.b ++ option_to_list gate.c)
+
+abbrev pub class_of : Wire → Class
+class_of wire = wire.class
+
+-- operands of these classes suit a gate of this name: its qubits, and at a measurement also a classical bit after the qubit
+abbrev pub SuitsName : GateName → List Class → Type 0
+SuitsName n classes = (classes ≡ replicate (qubits_of n) Q) ⊎ ((is_measurement n ≡ true) × (classes ≡ Q ∷ C ∷ []))
+
+-- the wire is none of these
+abbrev pub IsNew : Wire → List Wire → Type 0
+IsNew w [] = Unit {0}
+IsNew w (v ∷ vs) = (w ≢ v) × IsNew w vs
+
+-- no wire stands twice
+abbrev pub AreDistinct : List Wire → Type 0
+AreDistinct [] = Unit {0}
+AreDistinct (w ∷ ws) = IsNew w ws × AreDistinct ws
+
+pub record IsWellFormed (gate : Gate) : Type 0 where
+  pub suits : SuitsName (name_of gate.kind) (map class_of (operands gate))
+  pub distinct : AreDistinct (operands gate)
+  -- c is there only where b is
+  pub in_order : IsSome gate.c → IsSome gate.b

@@ -1,0 +1,3 @@
+pub mod Angles
+pub mod Gates
+pub mod Lines
