@@ -1,3 +1,5 @@
 pub mod Angles
+pub mod Chains
 pub mod Gates
 pub mod Lines
+pub mod Wires
