@@ -1,19 +1,15 @@
 -- Chains of a gate list, their greatest weights, and arrival times.
-use Rattle.std.specs.Prelude.{◌≡◌, ℕ, zero, suc, ◌+◌, ◌<◌, ◌≤◌, List, [], ◌∷◌, map, max, Bool, true, false, Option, Some, None, ◌⊎◌, slice_index, if◌then◌else◌}
+use Rattle.std.specs.Prelude.{◌≡◌, ℕ, zero, suc, ◌+◌, ◌<◌, ◌≤◌, List, [], ◌∷◌, map, max, Bool, true, false, Option, Some, None, ◌⊎◌, if◌then◌else◌}
 use Rattle.sc_gate.specs.declared.gate.Wire.{Wire}
-use Rattle.sc_gate.specs.declared.gate.Kind.{Kind}
 use Rattle.sc_gate.specs.declared.gate.Gate.{Gate}
-use Rattle.sc_gate.specs.Gates.{name_of, place_of, operands}
+use Rattle.sc_gate.specs.Gates.{operands}
+use Rattle.sc_gate.specs.Times.{duration}
 use Rattle.sc_gate.specs.Wires.{member}
 
 -- what chains see of a gate: its duration and its wires
 pub record Timed : Type 0 where
   pub weight : ℕ
   pub wires : List Wire
-
--- the duration of a kind, by a list of one number per name
-abbrev pub duration : List ℕ → Kind → ℕ
-duration times kind = slice_index times (place_of (name_of kind))
 
 abbrev pub timed : List ℕ → Gate → Timed
 timed times gate = record { weight = duration times gate.kind; wires = operands gate }

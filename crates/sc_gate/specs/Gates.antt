@@ -89,3 +89,25 @@ pub record IsWellFormed (gate : Gate) : Type 0 where
   pub distinct : AreDistinct (operands gate)
   -- c is there only where b is
   pub in_order : IsSome gate.c → IsSome gate.b
+
+-- the two kinds undo each other
+abbrev pub undo : Kind → Kind → Bool
+undo kind.X kind.X = true
+undo kind.Y kind.Y = true
+undo kind.Z kind.Z = true
+undo kind.H kind.H = true
+undo kind.S kind.Sdag = true
+undo kind.Sdag kind.S = true
+undo kind.T kind.Tdag = true
+undo kind.Tdag kind.T = true
+undo kind.Cnot kind.Cnot = true
+undo kind.Toffoli kind.Toffoli = true
+undo kind.Fredkin kind.Fredkin = true
+undo _ _ = false
+
+-- gates that undo each other on the same operands in the same order
+pub record Cancels (g h : Gate) : Type 0 where
+  pub first : IsWellFormed g
+  pub second : IsWellFormed h
+  pub kinds : undo g.kind h.kind ≡ true
+  pub operands_same : operands g ≡ operands h

@@ -1,6 +1,8 @@
 //! The types of wires and gates, and what is known of one gate.
-ghost use Rattle.std.specs.Prelude.{◌≡◌, ◌↔◌, IsTrue, [], ◌∷◌, slice_get};
-ghost use Rattle.sc_gate.specs.Gates.{name_of, qubits_of, operands, SuitsName, IsWellFormed};
+ghost use Rattle.std.specs.Prelude.{◌≡◌, ◌↔◌, IsTrue, [], ◌∷◌, slice_get, option_to_list};
+ghost use Rattle.std.specs.List.{list_any};
+ghost use Rattle.sc_gate.specs.Gates.{name_of, qubits_of, operands, SuitsName, IsWellFormed, undo, Cancels};
+ghost use Rattle.sc_gate.specs.Wires.{member, Shares, shares};
 
 use sc_base::{Class, Fixed, GateName};
 
@@ -108,6 +110,76 @@ pub fn well_formed(gate: &Gate) -> bool
             all_qubits && arity(&kind) == 3 && a != b && a != c && b != c
         }
         (None, Some(_)) => false,
+    }
+}
+
+/// Whether name and value are the same.
+pub fn same_kind(a: &Gate, b: &Gate) -> bool
+    ensures { IsTrue result ↔ (a.now.kind ≡ b.now.kind) }
+{
+    a.kind == b.kind
+}
+
+/// Whether the gates share a wire.
+pub fn depends(a: &Gate, b: &Gate) -> bool
+    ensures test { result ≡ shares a.now b.now }
+    ensures wire { IsTrue result ↔ Shares a.now b.now }
+{
+    has_operand_of(b, a)
+}
+
+fn has_operand_of(gate: &Gate, other: &Gate) -> bool
+    ensures { result ≡ shares other.now gate.now }
+{
+    has_wire(gate, other.a) || has_any(gate, other.b) || has_any(gate, other.c)
+}
+
+/// Whether the wire is an operand of the gate.
+fn has_wire(gate: &Gate, wire: Wire) -> bool
+    ensures { result ≡ member wire (operands gate.now) }
+{
+    gate.a == wire || gate.b == Some(wire) || gate.c == Some(wire)
+}
+
+fn has_any(gate: &Gate, wire: Option<Wire>) -> bool
+    ensures { result ≡ list_any (λ w. member w (operands gate.now)) (option_to_list wire) }
+{
+    match wire {
+        Some(wire) => has_wire(gate, wire),
+        None => false,
+    }
+}
+
+/// Whether two neighbouring gates undo each other: both are well formed, with the same operands in the same order, and are
+/// X, Y, Z, H, CNOT, Toffoli or Fredkin twice, or S and Sdag, or T and Tdag, in either order.
+pub fn cancels(a: &Gate, b: &Gate) -> bool
+    ensures { IsTrue result ↔ Cancels a.now b.now }
+{
+    undoes(&a.kind, &b.kind) && same_operands(a, b) && well_formed(a) && well_formed(b)
+}
+
+fn same_operands(a: &Gate, b: &Gate) -> bool
+    ensures { IsTrue result ↔ ((a.now.a ≡ b.now.a) × (a.now.b ≡ b.now.b) × (a.now.c ≡ b.now.c)) }
+{
+    a.a == b.a && a.b == b.b && a.c == b.c
+}
+
+fn undoes(a: &Kind, b: &Kind) -> bool
+    ensures { result ≡ undo a.now b.now }
+{
+    match (*a, *b) {
+        (Kind::X, Kind::X)
+        | (Kind::Y, Kind::Y)
+        | (Kind::Z, Kind::Z)
+        | (Kind::H, Kind::H)
+        | (Kind::Cnot, Kind::Cnot)
+        | (Kind::Toffoli, Kind::Toffoli)
+        | (Kind::Fredkin, Kind::Fredkin)
+        | (Kind::S, Kind::Sdag)
+        | (Kind::Sdag, Kind::S)
+        | (Kind::T, Kind::Tdag)
+        | (Kind::Tdag, Kind::T) => true,
+        _ => false,
     }
 }
 

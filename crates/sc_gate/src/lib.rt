@@ -2,7 +2,10 @@
 #![tactic(auto)]
 
 mod gate;
+pub mod laws;
 mod line;
+mod times;
 
-pub use gate::{Gate, Kind, Wire, arity, well_formed, wire_at};
+pub use gate::{Gate, Kind, Wire, arity, cancels, depends, same_kind, well_formed, wire_at};
 pub use line::{gate_name_text, write_gate};
+pub use times::Times;
