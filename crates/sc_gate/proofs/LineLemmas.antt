@@ -6,8 +6,9 @@ use Rattle.std.specs.Prelude.{map, flat_map, option_to_list, codes}
 use Rattle.std.specs.List.{join_with_byte}
 use Rattle.sc_gate.specs.declared.gate.Gate.{Gate}
 use Rattle.sc_gate.specs.declared.gate.Wire.{Wire}
+use Rattle.sc_base.specs.GateNames.{gate_text}
 use Rattle.sc_gate.specs.Gates.{name_of, operands}
-use Rattle.sc_gate.specs.Lines.{name_text, wire_text, value_texts, after_commas, gate_line}
+use Rattle.sc_gate.specs.Lines.{wire_text, value_texts, after_commas, gate_line}
 
 -- the first text, and then the others with commas before them
 pub joined_by_commas : (text : List ℕ) (texts : List (List ℕ)) → join_with_byte 44 (text ∷ texts) ≡ text ++ after_commas texts
@@ -30,7 +31,7 @@ rest_in_parts b c values =
 -- a gate line, as it is composed
 pub line_in_parts : (gate : Gate) →
     gate_line gate
-    ≡ ((((((name_text (name_of gate.kind) ++ codes " ") ++ wire_text gate.a) ++ after_commas (map wire_text (option_to_list gate.b))) ++ after_commas (map wire_text (option_to_list gate.c))) ++ after_commas (value_texts gate.kind)) ++ codes "\n")
+    ≡ ((((((gate_text (name_of gate.kind) ++ codes " ") ++ wire_text gate.a) ++ after_commas (map wire_text (option_to_list gate.b))) ++ after_commas (map wire_text (option_to_list gate.c))) ++ after_commas (value_texts gate.kind)) ++ codes "\n")
 line_in_parts gate =
     rw (joined_by_commas (wire_text gate.a) (map wire_text (option_to_list gate.b ++ option_to_list gate.c) ++ value_texts gate.kind), rest_in_parts gate.b gate.c (value_texts gate.kind))
     (simp append_assoc)

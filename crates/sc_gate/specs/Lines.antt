@@ -3,35 +3,13 @@ use Rattle.std.specs.Prelude.{ℕ, Bool, true, false, List, [], ◌∷◌, ◌++
 use Rattle.std.specs.List.{join_with_byte}
 use Rattle.sc_base.specs.declared.names.Class.{Class}
 use Rattle.sc_base.specs.declared.names.Class.TheVariants.{Q, C}
-use Rattle.sc_base.specs.declared.names.GateName.{GateName}
-use Rattle.sc_base.specs.declared.names.GateName.TheVariants.{X, Y, Z, H, S, T, Sdag, Tdag, Cnot, Toffoli, Fredkin, Rx, Ry, Rz, PrepX, PrepZ, MeasX, MeasZ}
+use Rattle.sc_base.specs.GateNames.{gate_text}
 use Rattle.sc_gate.specs.declared.gate.Wire.{Wire}
 use Rattle.sc_gate.specs.declared.gate.Kind.{Kind}
 use Rattle.sc_gate.specs.declared.gate.Kind.TheVariants as kind
 use Rattle.sc_gate.specs.declared.gate.Gate.{Gate}
 use Rattle.sc_gate.specs.Angles.{fixed_text}
 use Rattle.sc_gate.specs.Gates.{name_of, operands}
-
--- the names as they stand in sources and texts
-abbrev pub name_text : GateName → List ℕ
-name_text X = codes "X"
-name_text Y = codes "Y"
-name_text Z = codes "Z"
-name_text H = codes "H"
-name_text S = codes "S"
-name_text T = codes "T"
-name_text Sdag = codes "Sdag"
-name_text Tdag = codes "Tdag"
-name_text Cnot = codes "CNOT"
-name_text Toffoli = codes "Toffoli"
-name_text Fredkin = codes "Fredkin"
-name_text Rx = codes "Rx"
-name_text Ry = codes "Ry"
-name_text Rz = codes "Rz"
-name_text PrepX = codes "PrepX"
-name_text PrepZ = codes "PrepZ"
-name_text MeasX = codes "MeasX"
-name_text MeasZ = codes "MeasZ"
 
 -- `q` for a qubit and `c` for a classical bit
 abbrev pub class_letter : Class → ℕ
@@ -70,7 +48,7 @@ after_commas texts = flat_map (λ text. 44 ∷ text) texts
 -- the name, a space, the operands and then the angle or start value, joined by commas, and a line feed
 abbrev pub gate_line : Gate → List ℕ
 gate_line gate =
-    name_text (name_of gate.kind) ++ codes " " ++ join_with_byte 44 (map wire_text (operands gate) ++ value_texts gate.kind) ++ codes "\n"
+    gate_text (name_of gate.kind) ++ codes " " ++ join_with_byte 44 (map wire_text (operands gate) ++ value_texts gate.kind) ++ codes "\n"
 
 -- a word, a space, a number and a line feed
 abbrev pub number_line : List ℕ → ℕ → List ℕ

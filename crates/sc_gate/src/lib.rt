@@ -7,5 +7,5 @@ mod line;
 mod times;
 
 pub use gate::{Gate, Kind, Wire, arity, cancels, depends, same_kind, well_formed, wire_at};
-pub use line::{gate_name_text, write_gate};
+pub use line::{gate_name, write_gate};
 pub use times::Times;

@@ -1,8 +1,9 @@
 //! Gate lines, composed in a small buffer.
 ghost use Rattle.std.specs.Prelude.{◌≡◌, ◌+◌, ◌<◌, ◌≤◌, false, [], ◌∷◌, ◌++◌, length, map, option_to_list, OnOk};
 ghost use Rattle.sc_base.specs.Causes.{HasCause};
+ghost use Rattle.sc_base.specs.GateNames.{gate_text};
 ghost use Rattle.sc_base.specs.Output.{Wrote, WrotePrefix};
-ghost use Rattle.sc_gate.specs.Lines.{HasNoAngle, name_text, wire_text, value_texts, after_commas, gate_line};
+ghost use Rattle.sc_gate.specs.Lines.{HasNoAngle, wire_text, value_texts, after_commas, gate_line};
 
 use crate::{Gate, Kind, Wire};
 use itoa::Buffer;
@@ -100,7 +101,7 @@ fn line_of(gate: &Gate) -> Line
     ensures { result ≡ gate_line gate.now }
 {
     let mut line = Line::new();
-    line.push(gate_name_text(gate.kind.name()).as_bytes());
+    line.push(gate_name(gate.kind.name()).as_bytes());
     line.push(b" ");
     line.push_wire(gate.a);
     line.push_next(gate.b);
@@ -123,9 +124,9 @@ pub fn write_gate<O: Sink>(gate: &Gate, out: &mut O) -> Result<(), WriteFault>
     write_all(out, line.as_bytes())
 }
 
-/// The name of a gate as it stands in sources and texts.
-pub fn gate_name_text(name: GateName) -> &'static str
-    ensures text { result.now ≡ name_text name }
+/// The name of a gate as it is spelled in sources and texts.
+pub fn gate_name(name: GateName) -> &'static str
+    ensures text { result.now ≡ gate_text name }
     ensures short { length result.now ≤ 7 }
 {
     match name {
