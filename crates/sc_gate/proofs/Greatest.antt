@@ -92,3 +92,33 @@ unique_at P (Some a) (Some b) g h p q =
 
 pub greatest_unique : (P : ℕ → Type 0) (a b : Option ℕ) → Greatest P a → Greatest P b → a ≡ b
 greatest_unique P a b g h = unique_at P a b g h g.reached h.reached
+
+-- a number with the property that is not below m
+pub record Above (P : ℕ → Type 0) (m : ℕ) : Type 0 where
+  pub number : ℕ
+  pub holds : P number
+  pub above : m ≤ number
+
+bounds_above : (r : Option ℕ) (m n : ℕ) → m ≤ n → Bounds r n → Bounds r m
+bounds_above None m n h b = absurd b
+bounds_above (Some k) m n h b = omega arith
+
+-- the greatest of a part that holds a number above each is that of all
+pub greatest_part : (P Q : ℕ → Type 0) (a : Option ℕ) → ((n : ℕ) → P n → Q n) → ((m : ℕ) → Q m → Above P m) → Greatest P a → Greatest Q a
+greatest_part P Q a f u g = record {
+  reached = same_reached P Q a f g.reached;
+  bounds = λ m q. let x = u m q in bounds_above a m x.number x.above (g.bounds x.number x.holds);
+}
+
+back_reached : (P Q : ℕ → Type 0) (a : Option ℕ) → ((n : ℕ) → P n → Q n) → ((m : ℕ) → Q m → Above P m) → Greatest Q a → Reached Q a → Reached P a
+back_reached P Q None f u g r = tt
+back_reached P Q (Some n) f u g r =
+    let x = u n r in
+    let b : x.number ≤ n = g.bounds x.number (f x.number x.holds) in
+    let l : n ≤ x.number = x.above in
+    let e : x.number ≡ n = omega arith in
+    subst P e x.holds
+
+-- the greatest of all is that of a part that holds a number above each
+pub greatest_back : (P Q : ℕ → Type 0) (a : Option ℕ) → ((n : ℕ) → P n → Q n) → ((m : ℕ) → Q m → Above P m) → Greatest Q a → Greatest P a
+greatest_back P Q a f u g = record { reached = back_reached P Q a f u g g.reached; bounds = λ m p. g.bounds m (f m p) }

@@ -64,6 +64,18 @@ pub record Chain (gates : List Timed) (from to : Option Wire) (n : ℕ) : Type 0
   pub ends : meets_at gates (last_of first rest) to ≡ true
   pub weighs : n ≡ weight_of gates first rest
 
+-- a chain of two lists in sequence: one of either list, or one of the first that ends at a wire and then one of the
+-- second that starts there
+abbrev pub InTwo : List Timed → List Timed → Option Wire → Option Wire → ℕ → Type 0
+InTwo xs ys from to n =
+    (Chain xs from to n ⊎ Chain ys from to n)
+    ⊎ ((v : Wire) × (a : ℕ) × (b : ℕ) × Chain xs from (Some v) a × Chain ys (Some v) to b × (n ≡ a + b))
+
+-- the sum of all durations
+abbrev pub total_weight : List Timed → ℕ
+total_weight [] = 0
+total_weight (g ∷ gates) = g.weight + total_weight gates
+
 abbrev pub Reached : (ℕ → Type 0) → Option ℕ → Type 0
 Reached P None = Unit {0}
 Reached P (Some n) = P n
