@@ -1,0 +1,8 @@
+//! The command.
+#![tactic(auto)]
+
+mod array;
+mod arrays;
+mod form;
+mod maker;
+mod parts;
