@@ -1,6 +1,8 @@
 //! What is true of all gate lists.
-ghost use Rattle.std.specs.Prelude.{◌≡◌, ◌≤◌, ◌+◌, ◌++◌, ◌↔◌, ℕ, List, Option};
+ghost use Rattle.std.specs.Prelude.{◌≡◌, ◌≤◌, ◌+◌, ◌++◌, ◌↔◌, ℕ, Bool, List, Option};
 ghost use Rattle.sc_gate.specs.declared.gate.Wire.{Wire};
+ghost use Rattle.sc_gate.specs.declared.gate.Gate.{Gate};
+ghost use Rattle.sc_gate.specs.Runs.{bit_run};
 ghost use Rattle.sc_gate.specs.Chains.{Timed, Chain, InTwo, Greatest, best, IsCritical, critical_of, IsAfter, after, total_weight};
 
 /// `best` is the greatest weight of a chain.
@@ -30,3 +32,9 @@ pub fn arrivals_compose()
     ensures chains { (times : Wire → ℕ) (gates : List Timed) (w : Wire) → IsAfter times gates w (after times gates w) }
     ensures parts { (times : Wire → ℕ) (xs ys : List Timed) → after times (xs ++ ys) ≡ after (after times xs) ys }
 {}
+
+/// The bit run of two lists in sequence is the one after the other.
+pub fn bit_runs_compose()
+    ensures { (xs ys : List Gate) (bits : List Bool) → bit_run (xs ++ ys) bits ≡ bit_run ys (bit_run xs bits) }
+{
+}
