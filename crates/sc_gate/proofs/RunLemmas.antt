@@ -1,14 +1,17 @@
 -- Bits after a xor, and runs of lists in sequence and back.
 use Rattle.std.proofs.Common.{◌≡◌, ◌≢◌, ℕ, zero, suc, ◌+◌, ◌<◌, Bool, true, false, not, ◌&&◌, ◌⊎◌, inl, inr, Option, Some, None, List, [], ◌∷◌, ◌++◌, reverse, length, refl, sym, ap, ◌∙◌, arith}
 use Rattle.std.proofs.lemmas.List.{reverse-append}
-use Rattle.sc_base.specs.declared.names.Class.TheVariants.{Q, C}
+use Rattle.sc_base.specs.declared.names.Class.{Class}
+use Rattle.sc_base.specs.declared.names.Class.TheVariants.{Q}
+use Rattle.std.specs.Prelude.{map, replicate, option_to_list, IsSome}
 use Rattle.sc_base.specs.declared.names.GateName.{GateName}
 use Rattle.sc_base.specs.declared.names.GateName.TheVariants as name
 use Rattle.sc_gate.specs.declared.gate.Wire.{Wire}
 use Rattle.sc_gate.specs.declared.gate.Kind.{Kind}
 use Rattle.sc_gate.specs.declared.gate.Kind.TheVariants as kind
 use Rattle.sc_gate.specs.declared.gate.Gate.{Gate}
-use Rattle.sc_gate.specs.Gates.{IsWellFormed, operands}
+use Rattle.sc_gate.specs.Gates.{name_of, qubits_of, is_measurement, class_of, SuitsName, AreDistinct, IsWellFormed}
+use Rattle.sc_gate.proofs.WireLemmas.{same_parts}
 use Rattle.sc_gate.specs.Runs.{xor, bit_at, xor_at, bit_step_by, bit_step, bit_run, IsClassical, AreClassical, Phased, phase_step, phase_run_from, number_or_zero}
 
 xor_twice : (x v : Bool) → xor (xor x v) v ≡ x
@@ -97,7 +100,7 @@ AreApart kind.Cnot a b c = a ≢ b
 AreApart kind.Toffoli a b c = (a ≢ c) × (b ≢ c)
 AreApart _ a b c = Unit {0}
 
-pub step_by_twice : (k : Kind) (a b c : ℕ) (bits : List Bool) → AreApart k a b c → bit_step_by k a b c (bit_step_by k a b c bits) ≡ bits
+step_by_twice : (k : Kind) (a b c : ℕ) (bits : List Bool) → AreApart k a b c → bit_step_by k a b c (bit_step_by k a b c bits) ≡ bits
 step_by_twice kind.X a b c bits h = xor_at_twice a true bits
 step_by_twice kind.Cnot a b c bits h = ap (λ (v : Bool). xor_at b v (xor_at b (bit_at bits a) bits)) (bit_at_other b a (bit_at bits a) bits h) ∙ xor_at_twice b (bit_at bits a) bits
 step_by_twice kind.Toffoli a b c bits h =
@@ -106,3 +109,53 @@ step_by_twice kind.Toffoli a b c bits h =
     ∙ ap (λ (x : Bool). xor_at c (bit_at bits a && x) (xor_at c (bit_at bits a && bit_at bits b) bits)) (bit_at_other c b (bit_at bits a && bit_at bits b) bits h.1)
     ∙ xor_at_twice c (bit_at bits a && bit_at bits b) bits
 step_by_twice _ a b c bits h = refl
+
+wires_differ : (v w : Wire) → v.class ≡ w.class → v ≢ w → v.number ≢ w.number
+wires_differ v w c h n = h (same_parts v w c n)
+
+-- the operands of a gate, by their parts
+abbrev wires_of : Wire → Option Wire → Option Wire → List Wire
+wires_of a b c = a ∷ (option_to_list b ++ option_to_list c)
+
+apart_two : (a : Wire) (b c : Option Wire) → map class_of (wires_of a b c) ≡ Q ∷ Q ∷ [] → AreDistinct (wires_of a b c) → (IsSome c → IsSome b) → a.number ≢ number_or_zero b
+apart_two a None None e d o = absurd (let f : ⊥ = cc in f)
+apart_two a None (Some c) e d o = let h : false ≡ true = o refl in absurd (let f : ⊥ = cc in f)
+apart_two a (Some b) None e d o = wires_differ a b (let f : a.class ≡ b.class = cc in f) d.0.0
+apart_two a (Some b) (Some c) e d o = absurd (let f : ⊥ = cc in f)
+
+apart_three : (a : Wire) (b c : Option Wire) → map class_of (wires_of a b c) ≡ Q ∷ Q ∷ Q ∷ [] → AreDistinct (wires_of a b c) →
+    (a.number ≢ number_or_zero c) × (number_or_zero b ≢ number_or_zero c)
+apart_three a None None e d = absurd (let f : ⊥ = cc in f)
+apart_three a None (Some c) e d = absurd (let f : ⊥ = cc in f)
+apart_three a (Some b) None e d = absurd (let f : ⊥ = cc in f)
+apart_three a (Some b) (Some c) e d = (wires_differ a c (let f : a.class ≡ c.class = cc in f) d.0.1.0, wires_differ b c (let f : b.class ≡ c.class = cc in f) d.1.0.0)
+
+-- the operands of a kind without a classical bit are its qubits
+no_bit : (n : GateName) (classes : List Class) → is_measurement n ≡ false → SuitsName n classes → classes ≡ replicate (qubits_of n) Q
+no_bit n classes h (inl e) = e
+no_bit n classes h (inr (m, e)) = absurd (let f : ⊥ = cc in f)
+
+apart_by : (k : Kind) (a : Wire) (b c : Option Wire) → SuitsName (name_of k) (map class_of (wires_of a b c)) → AreDistinct (wires_of a b c) → (IsSome c → IsSome b) →
+    AreApart k a.number (number_or_zero b) (number_or_zero c)
+apart_by kind.Cnot a b c s d o = apart_two a b c (no_bit name.Cnot (map class_of (wires_of a b c)) refl s) d o
+apart_by kind.Toffoli a b c s d o = apart_three a b c (no_bit name.Toffoli (map class_of (wires_of a b c)) refl s) d
+apart_by _ a b c s d o = tt
+
+-- the controls of a well-formed gate are not its target
+pub apart : (g : Gate) → IsWellFormed g → AreApart g.kind g.a.number (number_or_zero g.b) (number_or_zero g.c)
+apart g h = apart_by g.kind g.a g.b g.c h.suits h.distinct h.in_order
+
+pub bit_step_twice : (g : Gate) (bits : List Bool) → IsWellFormed g → bit_step g (bit_step g bits) ≡ bits
+bit_step_twice g bits h = step_by_twice g.kind g.a.number (number_or_zero g.b) (number_or_zero g.c) bits (apart g h)
+
+-- the list backwards undoes it
+pub bit_run_back : (gates : List Gate) (bits : List Bool) → AreClassical gates → bit_run (reverse gates) (bit_run gates bits) ≡ bits
+bit_run_back [] bits h = refl
+bit_run_back (g ∷ gates) bits h =
+    ap (λ (l : List Gate). bit_run l (bit_run gates (bit_step g bits))) (reverse-append (g ∷ []) gates)
+    ∙ bit_run-append (reverse gates) (g ∷ []) (bit_run gates (bit_step g bits))
+    ∙ ap (bit_step g) (bit_run_back gates (bit_step g bits) h.1)
+    ∙ bit_step_twice g bits h.0.well_formed
+
+pub there_and_back : (gates : List Gate) (bits : List Bool) → AreClassical gates → bit_run (gates ++ reverse gates) bits ≡ bits
+there_and_back gates bits h = bit_run-append gates (reverse gates) bits ∙ bit_run_back gates bits h

@@ -1,8 +1,8 @@
 //! What is true of all gate lists.
-ghost use Rattle.std.specs.Prelude.{◌≡◌, ◌≤◌, ◌+◌, ◌++◌, ◌↔◌, ℕ, Bool, List, Option};
+ghost use Rattle.std.specs.Prelude.{◌≡◌, ◌≤◌, ◌+◌, ◌++◌, ◌↔◌, reverse, ℕ, Bool, List, Option};
 ghost use Rattle.sc_gate.specs.declared.gate.Wire.{Wire};
 ghost use Rattle.sc_gate.specs.declared.gate.Gate.{Gate};
-ghost use Rattle.sc_gate.specs.Runs.{bit_run};
+ghost use Rattle.sc_gate.specs.Runs.{bit_run, AreClassical};
 ghost use Rattle.sc_gate.specs.Chains.{Timed, Chain, InTwo, Greatest, best, IsCritical, critical_of, IsAfter, after, total_weight};
 
 /// `best` is the greatest weight of a chain.
@@ -36,5 +36,9 @@ pub fn arrivals_compose()
 /// The bit run of two lists in sequence is the one after the other.
 pub fn bit_runs_compose()
     ensures { (xs ys : List Gate) (bits : List Bool) → bit_run (xs ++ ys) bits ≡ bit_run ys (bit_run xs bits) }
-{
-}
+{}
+
+/// A list of X, CNOT and Toffoli and then the same reversed leaves every truth value.
+pub fn reversed_undoes()
+    ensures { (gates : List Gate) (bits : List Bool) → AreClassical gates → bit_run (gates ++ reverse gates) bits ≡ bits }
+{}
