@@ -1,4 +1,3 @@
-pub mod Angles
 pub mod Chains
 pub mod Gates
 pub mod Lines
