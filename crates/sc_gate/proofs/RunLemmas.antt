@@ -110,7 +110,7 @@ step_by_twice kind.Toffoli a b c bits h =
     ∙ xor_at_twice c (bit_at bits a && bit_at bits b) bits
 step_by_twice _ a b c bits h = refl
 
-wires_differ : (v w : Wire) → v.class ≡ w.class → v ≢ w → v.number ≢ w.number
+pub wires_differ : (v w : Wire) → v.class ≡ w.class → v ≢ w → v.number ≢ w.number
 wires_differ v w c h n = h (same_parts v w c n)
 
 -- the operands of a gate, by their parts
