@@ -1,5 +1,6 @@
 -- The critical path, weights, and chains of two lists, as laws on chains.
-use Rattle.std.proofs.Common.{◌≡◌, ℕ, ◌+◌, ◌≤◌, List, [], ◌∷◌, ◌++◌, true, Option, Some, None, ◌⊎◌, inl, inr, refl, ap, subst, arith, ◌↔◌}
+use Rattle.std.proofs.Common.{◌≡◌, ℕ, ◌+◌, ◌≤◌, List, [], ◌∷◌, ◌++◌, true, Option, Some, None, ◌⊎◌, inl, inr, refl, sym, ap, ◌∙◌, subst, arith, ◌↔◌}
+use Rattle.std.specs.Prelude.{unwrap_or}
 use Rattle.sc_gate.specs.declared.gate.Wire.{Wire}
 use Rattle.sc_gate.specs.Chains.{Timed, Chain, InTwo, Greatest, Reached, Bounds, best, or_zero, critical_of, IsCritical, total_weight}
 use Rattle.sc_gate.proofs.Weighs.{Weighs}
@@ -22,6 +23,14 @@ pub critical_chain : (gates : List Timed) → IsCritical gates (critical_of gate
 critical_chain gates =
     let g = greatest_chain gates None None in
     record { reached = zero_or_reached (Chain gates None None) (best gates None None) g.reached; bounds = zero_or_below (Chain gates None None) (best gates None None) g }
+
+unwrap_zero : (r : Option ℕ) → unwrap_or r 0 ≡ or_zero r
+unwrap_zero None = refl
+unwrap_zero (Some n) = refl
+
+-- the critical path, from the greatest weight of a chain
+pub critical_by : (gates : List Timed) (r : Option ℕ) (n : ℕ) → n ≡ unwrap_or r 0 → r ≡ best gates None None → IsCritical gates n
+critical_by gates r n e b = subst (λ (m : ℕ). IsCritical gates m) (sym (e ∙ unwrap_zero r ∙ ap or_zero b)) (critical_chain gates)
 
 joined_in : (xs ys : List Timed) (from to : Option Wire) (n : ℕ) → Joined xs ys from to n → InTwo xs ys from to n
 joined_in xs ys from to n (inl (inl h)) = inl (inl (chain_of xs to from n h))

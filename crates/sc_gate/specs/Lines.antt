@@ -8,7 +8,7 @@ use Rattle.sc_gate.specs.declared.gate.Wire.{Wire}
 use Rattle.sc_gate.specs.declared.gate.Kind.{Kind}
 use Rattle.sc_gate.specs.declared.gate.Kind.TheVariants as kind
 use Rattle.sc_gate.specs.declared.gate.Gate.{Gate}
-use Rattle.sc_gate.specs.Angles.{fixed_text}
+use Rattle.sc_base.specs.Decimals.{fixed_text}
 use Rattle.sc_gate.specs.Gates.{name_of, operands}
 
 -- `q` for a qubit and `c` for a classical bit

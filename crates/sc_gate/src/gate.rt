@@ -135,7 +135,7 @@ fn has_operand_of(gate: &Gate, other: &Gate) -> bool
 }
 
 /// Whether the wire is an operand of the gate.
-fn has_wire(gate: &Gate, wire: Wire) -> bool
+pub(crate) fn has_wire(gate: &Gate, wire: Wire) -> bool
     ensures { result ≡ member wire (operands gate.now) }
 {
     gate.a == wire || gate.b == Some(wire) || gate.c == Some(wire)

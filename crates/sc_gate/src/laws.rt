@@ -1,7 +1,9 @@
 //! What is true of all gate lists.
-ghost use Rattle.std.specs.Prelude.{◌≡◌, ◌≤◌, ◌+◌, ◌++◌, ◌↔◌, ℕ, List, Option};
+ghost use Rattle.std.specs.Prelude.{◌≡◌, ◌≤◌, ◌+◌, ◌++◌, ◌↔◌, reverse, ℕ, Bool, List, Option};
 ghost use Rattle.sc_gate.specs.declared.gate.Wire.{Wire};
-ghost use Rattle.sc_gate.specs.Chains.{Timed, Chain, InTwo, Greatest, best, IsCritical, critical_of, IsAfter, after, total_weight};
+ghost use Rattle.sc_gate.specs.declared.gate.Gate.{Gate};
+ghost use Rattle.sc_gate.specs.Runs.{bit_run, AreClassical};
+ghost use Rattle.sc_gate.specs.Chains.{Timed, Chain, InTwo, Greatest, best, IsCritical, critical_of, IsAfter, after, total_weight, Arrives, times_of, arrival_by};
 
 /// `best` is the greatest weight of a chain.
 pub fn best_is_greatest()
@@ -25,8 +27,21 @@ pub fn weights_add_up()
     ensures chains { (gates : List Timed) (from to : Option Wire) (n : ℕ) → Chain gates from to n → n ≤ total_weight gates }
 {}
 
-/// The arrival times, gate by gate, are those by all chains, and a second list begins at the times that the first leaves.
+/// The arrival times, gate by gate, are those by all chains, a second list begins at the times that the first leaves,
+/// and with times at parameter wires alone a table of greatest weights tells them.
 pub fn arrivals_compose()
     ensures chains { (times : Wire → ℕ) (gates : List Timed) (w : Wire) → IsAfter times gates w (after times gates w) }
     ensures parts { (times : Wire → ℕ) (xs ys : List Timed) → after times (xs ++ ys) ≡ after (after times xs) ys }
+    ensures table { (arrivals : List Arrives) (gates : List Timed) (w : Wire) →
+        after (times_of arrivals) gates w ≡ arrival_by arrivals (best gates) w }
+{}
+
+/// The bit run of two lists in sequence is the one after the other.
+pub fn bit_runs_compose()
+    ensures { (xs ys : List Gate) (bits : List Bool) → bit_run (xs ++ ys) bits ≡ bit_run ys (bit_run xs bits) }
+{}
+
+/// A list of X, CNOT and Toffoli and then the same reversed leaves every truth value.
+pub fn reversed_undoes()
+    ensures { (gates : List Gate) (bits : List Bool) → AreClassical gates → bit_run (gates ++ reverse gates) bits ≡ bits }
 {}

@@ -4,8 +4,10 @@
 mod gate;
 pub mod laws;
 mod line;
+mod slow;
 mod times;
 
 pub use gate::{Gate, Kind, Wire, arity, cancels, depends, same_kind, well_formed, wire_at};
 pub use line::{gate_name, write_gate};
+pub use slow::slow_critical;
 pub use times::Times;
