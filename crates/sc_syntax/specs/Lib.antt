@@ -1,5 +1,10 @@
 pub mod Bytes
+pub mod Cuts
+pub mod Lexing
+pub mod Marks
 pub mod Names
+pub mod Pieces
+pub mod Rows
 pub mod Reserved
 pub mod Spaces
 pub mod TokenLists

@@ -1,0 +1,9 @@
+pub mod Classes
+pub mod Digits
+pub mod Longest
+pub mod MarkTable
+pub mod Once
+pub mod PieceKinds
+pub mod Readings
+pub mod ReservedTable
+pub mod Turns
