@@ -2,6 +2,11 @@ pub mod Bytes
 pub mod Cuts
 pub mod Lexing
 pub mod Marks
+pub mod Count
+pub mod Formed
+pub mod FormedWords
+pub mod Kind
+pub mod Levels
 pub mod Names
 pub mod Pieces
 pub mod Rows

@@ -2,12 +2,14 @@
 #![tactic(auto)]
 
 mod bytes;
+mod kind;
 mod lexing;
 mod piece;
 mod reading;
 mod token;
 mod tree;
 
+pub use kind::Kind;
 pub use lexing::{LexFault, lex};
 pub use token::{Mark, Token, TokenSort, Tokens, Word};
 pub use tree::{
