@@ -1,2 +1,5 @@
+pub mod Bodies
+pub mod Items
 pub mod KeyLaws
 pub mod Keys
+pub mod Numbers

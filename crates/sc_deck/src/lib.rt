@@ -1,6 +1,10 @@
 //! Keys, bodies and decks: a program as a list of instances, each with its items.
 #![tactic(auto)]
 
+mod body;
+mod item;
 mod key;
 
+pub use body::Body;
+pub use item::{Item, Operands};
 pub use key::{Arg, Key};
