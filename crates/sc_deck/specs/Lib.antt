@@ -3,3 +3,4 @@ pub mod Items
 pub mod KeyLaws
 pub mod Keys
 pub mod Numbers
+pub mod Repeats

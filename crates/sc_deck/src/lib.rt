@@ -4,7 +4,9 @@
 mod body;
 mod item;
 mod key;
+mod repeat;
 
 pub use body::Body;
 pub use item::{Item, Operands};
 pub use key::{Arg, Key};
+pub use repeat::first_repeat;
