@@ -9,7 +9,8 @@ use Rattle.sc_base.specs.declared.names.Class.TheVariants.{Q, C}
 use Rattle.sc_deck.specs.declared.key.Arg.{Arg}
 use Rattle.sc_deck.specs.declared.key.Arg.TheVariants.{Int, Double, One, Many}
 use Rattle.sc_deck.specs.declared.key.Key.{Key}
-use Rattle.sc_deck.specs.Keys.{same_class, same_arg, same_key}
+use Rattle.sc_gate.specs.Wires.{same_class}
+use Rattle.sc_deck.specs.Keys.{same_arg, same_key}
 
 both_true : (s t : Bool) → (s && t) ≡ true → (s ≡ true) × (t ≡ true)
 both_true true t h = (refl, h)

@@ -2,11 +2,14 @@
 #![tactic(auto)]
 
 mod body;
+mod deck;
+mod entry;
 mod item;
 mod key;
 mod repeat;
 
 pub use body::Body;
+pub use deck::Deck;
 pub use item::{Item, Operands};
 pub use key::{Arg, Key};
 pub use repeat::first_repeat;
