@@ -7,7 +7,7 @@ ghost use Rattle.sc_gate.specs.Wires.{member, Shares, shares};
 use sc_base::{Class, Fixed, GateName};
 
 /// A wire of its class. Qubits and classical bits are numbered apart, each from 0.
-#[derive(Clone, Copy, Debug, PartialEq, Eq)]
+#[derive(Clone, Copy, Debug, Default, PartialEq, Eq)]
 pub struct Wire {
     pub class: Class,
     pub number: u32,

@@ -1,0 +1,9 @@
+pub mod Bodies
+pub mod Decks
+pub mod Entries
+pub mod Items
+pub mod KeyLaws
+pub mod Keys
+pub mod Modules
+pub mod Numbers
+pub mod Repeats
