@@ -34,13 +34,6 @@ value_texts (kind.PrepX start) = start_text start ∷ []
 value_texts (kind.PrepZ start) = start_text start ∷ []
 value_texts _ = []
 
--- a kind without an angle
-abbrev pub HasNoAngle : Kind → Type 0
-HasNoAngle (kind.Rx angle) = ⊥
-HasNoAngle (kind.Ry angle) = ⊥
-HasNoAngle (kind.Rz angle) = ⊥
-HasNoAngle _ = Unit {0}
-
 -- each with a comma before it
 abbrev pub after_commas : List (List ℕ) → List ℕ
 after_commas texts = flat_map (λ text. 44 ∷ text) texts

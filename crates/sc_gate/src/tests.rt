@@ -1,5 +1,7 @@
 //! Worked examples.
-use crate::{Gate, Kind, Times, Wire, cancels, depends, same_kind, well_formed, wire_at, write_gate};
+use crate::{
+    Gate, Kind, Times, Wire, cancels, depends, same_kind, well_formed, wire_at, write_gate,
+};
 use sc_base::{Class, GateName, MemSink, Sink};
 use std::test::Fail;
 
