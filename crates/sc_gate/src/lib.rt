@@ -13,3 +13,6 @@ pub use gate::{Gate, Kind, Wire, arity, cancels, depends, same_kind, well_formed
 pub use line::{gate_name, write_gate};
 pub use slow::slow_critical;
 pub use times::Times;
+
+#[cfg(test)]
+mod tests;

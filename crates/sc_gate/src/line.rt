@@ -1,14 +1,13 @@
 //! Gate lines, composed in a small buffer.
 ghost use Rattle.std.specs.Prelude.{◌≡◌, ◌+◌, ◌<◌, ◌≤◌, false, [], ◌∷◌, ◌++◌, length, map, option_to_list, OnOk};
 ghost use Rattle.sc_base.specs.Causes.{HasCause};
-ghost use Rattle.sc_base.specs.Decimals.{fixed_text};
 ghost use Rattle.sc_base.specs.GateNames.{gate_text};
 ghost use Rattle.sc_base.specs.Output.{Wrote, WrotePrefix};
 ghost use Rattle.sc_gate.specs.Lines.{wire_text, value_texts, after_commas, gate_line};
 
 use crate::{Gate, Kind, Wire};
 use itoa::Buffer;
-use sc_base::{Class, Fixed, GateName, Sink, WriteFault, write_all, write_fixed};
+use sc_base::{Class, GateName, Sink, WriteFault, write_all, write_fixed};
 use std::marker::Model;
 
 /// More than the longest gate line.
@@ -81,28 +80,21 @@ impl Line {
         }
     }
 
-    /// A comma and the angle.
-    fn push_angle(&mut self, angle: Fixed)
-        requires { length self.old + 22 ≤ 80 }
-        ensures text { self.new ≡ self.old ++ after_commas (fixed_text angle.0 ∷ []) }
-        ensures short { length self.new ≤ length self.old + 22 }
-    {
-        let mut text = [0; 24];
-        let count = write_fixed(angle, &mut text);
-        self.push(b",");
-        self.push(&text[..count]);
-    }
-
     /// A comma and the angle or start value, where there is one.
     fn push_value(&mut self, kind: &Kind)
-        requires { length self.old + 22 ≤ 80 }
+        requires { length self.old + 25 ≤ 80 }
         ensures text { self.new ≡ self.old ++ after_commas (value_texts kind.now) }
-        ensures short { length self.new ≤ length self.old + 22 }
+        ensures short { length self.new ≤ length self.old + 25 }
     {
         match *kind {
-            Kind::Rx(angle) | Kind::Ry(angle) | Kind::Rz(angle) => self.push_angle(angle),
             Kind::PrepX(start) | Kind::PrepZ(start) => {
                 self.push(if start { b",1" } else { b",0" });
+            }
+            Kind::Rx(angle) | Kind::Ry(angle) | Kind::Rz(angle) => {
+                let mut buffer = [0; 24];
+                let count = write_fixed(angle, &mut buffer);
+                self.push(b",");
+                self.push(&buffer[..count]);
             }
             _ => {}
         }
@@ -125,7 +117,7 @@ fn line_of(gate: &Gate) -> Line
 
 /// Writes the gate line: the name, a space, the operands and then the angle or start value, joined by commas, and a line feed.
 pub fn write_gate<O: Sink>(gate: &Gate, out: &mut O) -> Result<(), WriteFault>
-    requires open { O.is_ended out.old ≡ false }
+    requires { O.is_ended out.old ≡ false }
     ensures open { O.is_ended out.new ≡ false }
     ensures appended { OnOk result (Wrote O.tells O.bytes out.old out.new (gate_line gate.now)) }
     ensures prefix { WrotePrefix O.tells O.bytes out.old out.new (gate_line gate.now) }
