@@ -11,7 +11,7 @@ use sc_base::{Sink, WriteFault, write_all};
 
 /// Writes a line of a word, a space and a number. Takes no memory. At a fault of the sink a prefix of the line is written.
 pub fn write_number_line<O: Sink>(word: &[u8], number: u128, out: &mut O) -> Result<(), WriteFault>
-    requires open { O.is_ended out.old ≡ false }
+    requires { O.is_ended out.old ≡ false }
     ensures open { O.is_ended out.new ≡ false }
     ensures appended { OnOk result (Wrote O.tells O.bytes out.old out.new (number_line word.now number)) }
     ensures prefix { WrotePrefix O.tells O.bytes out.old out.new (number_line word.now number) }
@@ -31,7 +31,7 @@ fn write_header<O: Sink>(
     gates: u128,
     out: &mut O,
 ) -> Result<(), WriteFault>
-    requires open { O.is_ended out.old ≡ false }
+    requires { O.is_ended out.old ≡ false }
     ensures open { O.is_ended out.new ≡ false }
     ensures appended { OnOk result (Wrote O.tells O.bytes out.old out.new (flat_header qubits cbits gates)) }
     ensures prefix { WrotePrefix O.tells O.bytes out.old out.new (flat_header qubits cbits gates) }
@@ -46,7 +46,7 @@ fn write_header<O: Sink>(
 
 /// Writes the gate lines.
 fn write_gates<O: Sink>(gates: &[Gate], out: &mut O) -> Result<(), WriteFault>
-    requires open { O.is_ended out.old ≡ false }
+    requires { O.is_ended out.old ≡ false }
     ensures open { O.is_ended out.new ≡ false }
     ensures appended { OnOk result (Wrote O.tells O.bytes out.old out.new (gate_lines gates.now)) }
     ensures prefix { WrotePrefix O.tells O.bytes out.old out.new (gate_lines gates.now) }
@@ -65,7 +65,7 @@ pub fn write_flat<O: Sink>(
     gates: &[Gate],
     out: &mut O,
 ) -> Result<(), WriteFault>
-    requires open { O.is_ended out.old ≡ false }
+    requires { O.is_ended out.old ≡ false }
     ensures open { O.is_ended out.new ≡ false }
     ensures appended { OnOk result (Wrote O.tells O.bytes out.old out.new (flat_text qubits cbits gates.now)) }
     ensures prefix { WrotePrefix O.tells O.bytes out.old out.new (flat_text qubits cbits gates.now) }

@@ -1,3 +1,4 @@
 mod BodyLemmas
 mod MakerLemmas
 mod PartLemmas
+mod RunLemmas

@@ -1,4 +1,7 @@
+pub mod Answers
 pub mod Arrays
+pub mod Codes
+pub mod Fault
 pub mod First
 pub mod Kinds
 pub mod Lexemes
