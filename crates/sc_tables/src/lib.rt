@@ -5,3 +5,6 @@ pub mod laws;
 mod lists;
 
 pub use lists::{fredkin, toffoli};
+
+#[cfg(test)]
+mod tests;
