@@ -1,5 +1,5 @@
 -- The arrival times that are made gate by gate are those of all chains.
-use Rattle.std.proofs.Common.{◌≡◌, ℕ, zero, suc, ◌+◌, ◌<◌, ◌≤◌, List, [], ◌∷◌, ◌++◌, Bool, true, false, cond, Option, Some, None, ◌⊎◌, inl, inr, refl, ap, ◌∙◌, subst, sym, arith}
+use Rattle.std.proofs.Common.{◌≡◌, ℕ, zero, suc, ◌+◌, ◌<◌, ◌≤◌, List, [], ◌∷◌, ◌++◌, Bool, true, false, cond, Option, Some, None, ◌⊎◌, inl, inr, refl, ap, ◌∙◌, subst, arith}
 use Rattle.std.specs.Prelude.{map, max, ◌||◌}
 use Rattle.std.proofs.lemmas.Bool.{cases_lt}
 use Rattle.sc_gate.specs.declared.gate.Wire.{Wire}
@@ -26,7 +26,7 @@ attains_by : (times : Wire → ℕ) (x u : Wire) (ws : List Wire) → member u w
 attains_by times x u ws h e (inl l) = (x, member_here x ws, (let r : max (times x) (largest (map times ws)) ≡ times x = omega arith in r))
 attains_by times x u ws h e (inr l) = (u, member_later x u ws h, (let r : max (times x) (largest (map times ws)) ≡ times u = omega arith in r))
 
-largest_first : (times : Wire → ℕ) (x : Wire) (ws : List Wire) → Attains times (x ∷ ws)
+pub largest_first : (times : Wire → ℕ) (x : Wire) (ws : List Wire) → Attains times (x ∷ ws)
 largest_first times x [] = (x, member_here x [], (let r : max (times x) 0 ≡ times x = omega arith in r))
 largest_first times x (y ∷ ws) = let a = largest_first times y ws in attains_by times x a.0 (y ∷ ws) a.1 a.2 (cases_lt (times a.0) (times x))
 
@@ -34,7 +34,7 @@ pub largest_at : (times : Wire → ℕ) (w : Wire) (ws : List Wire) → member w
 largest_at times w [] h = cc
 largest_at times w (x ∷ ws) h = largest_first times x ws
 
-after_by : (times : Wire → ℕ) (g : Timed) (w : Wire) (t : Bool) → member w g.wires ≡ t → after_gate times g w ≡ cond t (g.weight + largest (map times g.wires)) (times w)
+pub after_by : (times : Wire → ℕ) (g : Timed) (w : Wire) (t : Bool) → member w g.wires ≡ t → after_gate times g w ≡ cond t (g.weight + largest (map times g.wires)) (times w)
 after_by times g w t h = ap (λ (b : Bool). cond b (g.weight + largest (map times g.wires)) (times w)) h
 
 grows_by : (times : Wire → ℕ) (g : Timed) (w : Wire) (t : Bool) → member w g.wires ≡ t → times w ≤ after_gate times g w
@@ -45,7 +45,7 @@ grows_by times g w true h =
 grows_by times g w false h = let e : after_gate times g w ≡ times w = after_by times g w false h in omega arith
 
 -- times never fall
-after_grows : (times : Wire → ℕ) (g : Timed) (w : Wire) → times w ≤ after_gate times g w
+pub after_grows : (times : Wire → ℕ) (g : Timed) (w : Wire) → times w ≤ after_gate times g w
 after_grows times g w = grows_by times g w (member w g.wires) refl
 
 -- the time at w, or that of a chain from one of its first wires to w

@@ -2,12 +2,12 @@
 use Rattle.std.proofs.Common.{◌≡◌, ℕ, Option, List, [], ◌∷◌, ◌++◌, refl, sym, ap, ◌∙◌, append_assoc, ◌+◌, ◌<◌, length, get_or, take, drop, add-one, drop-cons}
 use Rattle.std.proofs.lemmas.List.{append-nil, map-append, take-append-drop}
 use Rattle.std.proofs.lemmas.Grind.{flat_map-append}
-use Rattle.std.specs.Prelude.{map, flat_map, option_to_list, codes}
+use Rattle.std.specs.Prelude.{map, option_to_list, codes}
 use Rattle.std.specs.List.{join_with_byte}
 use Rattle.sc_gate.specs.declared.gate.Gate.{Gate}
 use Rattle.sc_gate.specs.declared.gate.Wire.{Wire}
 use Rattle.sc_base.specs.GateNames.{gate_text}
-use Rattle.sc_gate.specs.Gates.{name_of, operands}
+use Rattle.sc_gate.specs.Gates.{name_of}
 use Rattle.sc_gate.specs.Lines.{wire_text, value_texts, after_commas, gate_line, gate_lines}
 
 -- the first text, and then the others with commas before them

@@ -1,5 +1,5 @@
 -- Bits after a xor, and runs of lists in sequence and back.
-use Rattle.std.proofs.Common.{◌≡◌, ◌≢◌, ℕ, zero, suc, ◌+◌, ◌<◌, Bool, true, false, not, ◌&&◌, ◌⊎◌, inl, inr, Option, Some, None, List, [], ◌∷◌, ◌++◌, reverse, length, refl, sym, ap, ◌∙◌, arith}
+use Rattle.std.proofs.Common.{◌≡◌, ◌≢◌, ℕ, zero, suc, ◌<◌, Bool, true, false, ◌&&◌, inl, inr, Option, Some, None, List, [], ◌∷◌, ◌++◌, reverse, length, refl, ap, ◌∙◌, arith}
 use Rattle.std.proofs.lemmas.List.{reverse-append}
 use Rattle.sc_base.specs.declared.names.Class.{Class}
 use Rattle.sc_base.specs.declared.names.Class.TheVariants.{Q}
@@ -12,7 +12,7 @@ use Rattle.sc_gate.specs.declared.gate.Kind.TheVariants as kind
 use Rattle.sc_gate.specs.declared.gate.Gate.{Gate}
 use Rattle.sc_gate.specs.Gates.{name_of, qubits_of, is_measurement, class_of, SuitsName, AreDistinct, IsWellFormed}
 use Rattle.sc_gate.proofs.WireLemmas.{same_parts}
-use Rattle.sc_gate.specs.Runs.{xor, bit_at, xor_at, bit_step_by, bit_step, bit_run, IsClassical, AreClassical, Phased, phase_step, phase_run_from, number_or_zero}
+use Rattle.sc_gate.specs.Runs.{xor, bit_at, xor_at, bit_step_by, bit_step, bit_run, AreClassical, Phased, phase_step, phase_run_from, number_or_zero}
 
 xor_twice : (x v : Bool) → xor (xor x v) v ≡ x
 xor_twice true true = refl

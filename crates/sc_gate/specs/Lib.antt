@@ -1,5 +1,6 @@
 pub mod Chains
 pub mod Gates
+pub mod Heights
 pub mod Lines
 pub mod Runs
 pub mod Times

@@ -1,4 +1,3 @@
-use Rattle.std.proofs.Common.{length}
 use Rattle.sc_base.proofs.OutputLemmas.{wrote_then, prefix_whole, prefix_more, prefix_then}
 use Rattle.sc_gate.specs.Lines.{gate_lines}
 use Rattle.sc_gate.proofs.flat.write_flat.Goals as goal

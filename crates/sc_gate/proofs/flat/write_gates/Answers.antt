@@ -1,4 +1,4 @@
-use Rattle.std.proofs.Common.{◌≡◌, ◌+◌, ◌<◌, length, take, drop, arith}
+use Rattle.std.proofs.Common.{◌+◌, ◌<◌, length, drop, arith}
 use Rattle.sc_base.proofs.OutputLemmas.{prefix_at}
 use Rattle.sc_gate.proofs.LineLemmas.{gate_lines-at}
 use Rattle.sc_gate.specs.Lines.{gate_lines}
