@@ -1,3 +1,4 @@
 mod ChainLemmas
 mod EntryLemmas
+pub mod KindLaws
 mod ScopeLemmas
