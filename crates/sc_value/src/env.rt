@@ -95,7 +95,7 @@ impl Env {
 
     /// The value of a name in the innermost scope that declares it; `M_PI` where no scope declares that.
     pub fn get(&self, name: &Text) -> Option<Value>
-        ensures { result ≡ value_of_name self.now name.now }
+        ensures value { result ≡ value_of_name self.now name.now }
     {
         let bytes = name.as_bytes();
         let mut depth = self.entered.len();

@@ -51,7 +51,8 @@ fn kind_of(expr: &Expr, env: &Env) -> Option<NumSort>
 pub fn eval(expr: &Expr, env: &Env) -> Result<Value, EvalFault>
     requires formed { IsFormedExpr expr.now }
     requires typed { IsNumber (kinds_of (value_of_name env.now)) expr.now }
-    ensures { result ≡ value_of_expr (value_of_name env.now) expr.now }
+    ensures value { result ≡ value_of_expr (value_of_name env.now) expr.now }
+    ensures kind { IfOk result (λ v. kind_of_expr (kinds_of (value_of_name env.now)) expr.now ≡ Some (sort_of v)) }
 {
     evaluate(expr, env)
 }
