@@ -1,2 +1,4 @@
 pub mod BodyLemmas
+pub mod CallLemmas
+pub mod FindLemmas
 pub mod RepeatLemmas
