@@ -1,4 +1,7 @@
 pub mod BodyLemmas
 pub mod CallLemmas
+pub mod CalleeLemmas
+pub mod DeckLemmas
+pub mod EarlierLemmas
 pub mod FindLemmas
 pub mod RepeatLemmas

@@ -1,5 +1,5 @@
 //! Decks: bodies under their keys, callees before callers.
-ghost use Rattle.std.specs.Prelude.{◌≡◌, ◌↔◌, [], ◌∷◌, ◌++◌, ◌<◌, ◌+◌, ◌-◌, length, map, flat_map, take, ℕ, ◌≢◌, IsTrue, OnOk, OnErr, IfOk, IfSome, IfNone, MatchOption, slice_get, replicate, true, ◌≤◌, slice_index, Some, ◌||◌, nat_eq, List};
+ghost use Rattle.std.specs.Prelude.{◌≡◌, ◌↔◌, [], ◌∷◌, ◌++◌, ◌<◌, ◌+◌, ◌-◌, length, map, flat_map, take, ℕ, ◌≢◌, IsTrue, OnOk, OnErr, IfOk, IfSome, IfNone, MatchOption, slice_get, replicate, true, false, slice_index_or, ◌≤◌, slice_index, Some, ◌||◌, nat_eq, List};
 ghost use Rattle.std.specs.Option.{option_map, option_copied};
 ghost use Rattle.std.specs.List.{list_any};
 ghost use Rattle.sc_gate.specs.declared.gate.Wire.{Wire};
@@ -9,6 +9,7 @@ ghost use Rattle.sc_deck.specs.Decks.{CallFits, CallsFit, IsNewKey, IsDeck, IsWh
 ghost use Rattle.sc_deck.specs.Items.{callees_of};
 ghost use Rattle.sc_deck.specs.Keys.{arg_classes, params_of, HasLengths, main_key};
 ghost use Rattle.sc_deck.specs.Modules.{Module, key_of, body_of, heights_of, reaches_of, greatest_called};
+ghost use Rattle.sc_deck.specs.Entries.{height_in, reach_in};
 
 use crate::entry::Entry;
 use crate::{Arg, Body, Item, Key};
@@ -46,6 +47,37 @@ impl Deck {
             entries: IndexMap::new(alloc),
             called: Vec::new(alloc),
         }
+    }
+
+    /// Appends a body under its key and answers its number. Unchanged after `Memory`.
+    pub fn push_body(&mut self, key: Key, body: Body) -> Result<u32, Memory>
+        requires new { IsNewKey self.old key }
+        requires lengths { HasLengths key }
+        requires params { body.params ≡ params_of key }
+        requires room { length self.old < 65536 }
+        requires calls { CallsFit self.old body.items }
+        ensures number { IfOk result (λ n. n ≡ length self.old) }
+        ensures pushed { OnOk result (self.new ≡ self.old ++ record { key = key; items = body.items } ∷ []) }
+        ensures err { OnErr result (self.new ≡ self.old) }
+    {
+        let number = self.entries.len() as u32;
+        let (height, reach) = called_by_all(&self.entries, body.items());
+        let height = height + 1;
+        let reach = reach + u64::from(body.wires());
+        if self.entries.reserve(1).is_err() {
+            return Err(Memory);
+        }
+        if self.called.push(false).is_err() {
+            return Err(Memory);
+        }
+        mark_callees(&mut self.called, body.items());
+        let entry = Entry {
+            body,
+            height,
+            reach,
+        };
+        let _ = self.entries.insert(key, entry);
+        Ok(number)
     }
 
     /// How many bodies there are, at most 65,536. Takes no memory.
@@ -202,4 +234,59 @@ fn all_but_last(marks: &[bool]) -> bool
         }
     }
     true
+}
+
+/// The greatest height and the greatest reach of the bodies that the items call, and 0 where they call none.
+fn called_by_all(entries: &IndexMap<Key, Entry>, items: &[Item]) -> (u32, u64)
+    ensures height { result.0 ≡ greatest_called (map height_in entries.now.entries) items.now }
+    ensures reach { result.1 ≡ greatest_called (map reach_in entries.now.entries) items.now }
+{
+    let mut height: u32 = 0;
+    let mut reach: u64 = 0;
+    for item in items {
+        let (called_height, called_reach) = called_by(entries, item);
+        height = height.max(called_height);
+        reach = reach.max(called_reach);
+    }
+    (height, reach)
+}
+
+/// The height and the reach of the body that the item calls, and 0 where it calls none.
+fn called_by(entries: &IndexMap<Key, Entry>, item: &Item) -> (u32, u64)
+    ensures height { result.0 ≡ greatest_called (map height_in entries.now.entries) (item.now ∷ []) }
+    ensures reach { result.1 ≡ greatest_called (map reach_in entries.now.entries) (item.now ∷ []) }
+{
+    let Some(callee) = item.callee() else {
+        return (0, 0);
+    };
+    match entries.get_index(callee as usize) {
+        Some((_, entry)) => (entry.height, entry.reach),
+        None => (0, 0),
+    }
+}
+
+/// Sets the marks of the bodies that the items call.
+fn mark_callees(marks: &mut [bool], items: &[Item])
+    ensures len { length marks.new ≡ length marks.old }
+    ensures marked { (i : ℕ) → i < length marks.old →
+        slice_index_or marks.new i false ≡ (slice_index_or marks.old i false || list_any (nat_eq i) (callees_of items.now)) }
+{
+    for item in items {
+        mark_callee(marks, item);
+    }
+}
+
+/// Sets the mark of the body that the item calls.
+fn mark_callee(marks: &mut [bool], item: &Item)
+    ensures len { length marks.new ≡ length marks.old }
+    ensures marked { (i : ℕ) → i < length marks.old →
+        slice_index_or marks.new i false ≡ (slice_index_or marks.old i false || list_any (nat_eq i) (callees_of (item.now ∷ []))) }
+{
+    let Some(callee) = item.callee() else {
+        return;
+    };
+    let at = callee as usize;
+    if at < marks.len() {
+        marks[at] = true;
+    }
 }
