@@ -1,5 +1,5 @@
 -- The classes of a call's wires against those of parameters.
-use Rattle.std.proofs.Common.{◌≡◌, ◌≢◌, ℕ, ◌+◌, ◌<◌, ◌≤◌, Bool, true, false, List, [], ◌∷◌, ◌++◌, map, length, take, drop, replicate, get_or, refl, sym, ap, ◌∙◌, subst, arith, length-append, length-take-le, append_assoc, append-nil}
+use Rattle.std.proofs.Common.{◌≡◌, ◌≢◌, ℕ, ◌+◌, ◌<◌, ◌≤◌, List, [], ◌∷◌, ◌++◌, map, length, take, drop, replicate, get_or, sym, ap, ◌∙◌, arith, length-append, length-take-le, append_assoc, append-nil}
 use Rattle.std.specs.Prelude.{flat_map}
 use Rattle.std.proofs.lemmas.List.{take_more, take-map, length-map, length-replicate, get_or-map, get_or-replicate, take-append-le, take-append-drop, append_cancel_left, map-append, nil_from_length}
 use Rattle.std.proofs.lemmas.Grind.{flat_map-append}
@@ -32,7 +32,7 @@ pub args_more : (args : List Arg) (i : ℕ) (d : Arg) (wires rest : List Wire) (
 args_more args i d wires rest n below so_far front =
     let cut : map class_of rest ≡ map class_of (take n rest) ++ map class_of (drop n rest) = ap (map class_of) (sym (take-append-drop n rest)) ∙ map-append class_of (take n rest) (drop n rest) in
     let one : flat_map arg_classes (take (i + 1) args) ≡ flat_map arg_classes (take i args) ++ arg_classes (get_or args i d) =
-      ap (flat_map arg_classes) (take_more args i d below) ∙ flat_map-append arg_classes (take i args) (get_or args i d ∷ []) ∙ ap (λ (cs : List Class). flat_map arg_classes (take i args) ++ cs) (append-nil (arg_classes (get_or args i d))) in
+    ap (flat_map arg_classes) (take_more args i d below) ∙ flat_map-append arg_classes (take i args) (get_or args i d ∷ []) ∙ ap (λ (cs : List Class). flat_map arg_classes (take i args) ++ cs) (append-nil (arg_classes (get_or args i d))) in
     so_far ∙ ap (λ (cs : List Class). flat_map arg_classes (take i args) ++ cs) (cut ∙ ap (λ (cs : List Class). cs ++ map class_of (drop n rest)) front)
     ∙ sym (append_assoc (flat_map arg_classes (take i args)) (arg_classes (get_or args i d)) (map class_of (drop n rest)))
     ∙ ap (λ (cs : List Class). cs ++ map class_of (drop n rest)) (sym one)
@@ -42,7 +42,7 @@ pub args_cut : (args : List Arg) (i : ℕ) (d : Arg) → i < length args → fla
 args_cut args i d below =
     ap (flat_map arg_classes) (sym (take-append-drop (i + 1) args)) ∙ flat_map-append arg_classes (take (i + 1) args) (drop (i + 1) args)
     ∙ ap (λ (cs : List Class). cs ++ flat_map arg_classes (drop (i + 1) args))
-        (ap (flat_map arg_classes) (take_more args i d below) ∙ flat_map-append arg_classes (take i args) (get_or args i d ∷ []) ∙ ap (λ (cs : List Class). flat_map arg_classes (take i args) ++ cs) (append-nil (arg_classes (get_or args i d))))
+    (ap (flat_map arg_classes) (take_more args i d below) ∙ flat_map-append arg_classes (take i args) (get_or args i d ∷ []) ∙ ap (λ (cs : List Class). flat_map arg_classes (take i args) ++ cs) (append-nil (arg_classes (get_or args i d))))
     ∙ append_assoc (flat_map arg_classes (take i args)) (arg_classes (get_or args i d)) (flat_map arg_classes (drop (i + 1) args))
 
 -- where an argument finds no wires, the classes differ
@@ -53,9 +53,10 @@ args_differ args i d wires rest below so_far none e =
 -- after the last argument no wire is left exactly where the classes are equal
 pub args_end : (args : List Arg) (i : ℕ) (wires rest : List Wire) → i ≡ length args → map class_of wires ≡ flat_map arg_classes (take i args) ++ map class_of rest → (length rest ≡ 0 → map class_of wires ≡ flat_map arg_classes args) × (map class_of wires ≡ flat_map arg_classes args → length rest ≡ 0)
 args_end args i wires rest all so_far =
-    let whole : map class_of wires ≡ flat_map arg_classes args ++ map class_of rest = so_far ∙ ap (λ (xs : List Arg). flat_map arg_classes xs ++ map class_of rest) (ap (λ (k : ℕ). take k args) all ∙ take-length args) in
-    ((λ e. whole ∙ ap (λ (ws : List Wire). flat_map arg_classes args ++ map class_of ws) (nil_from_length rest e) ∙ append-nil (flat_map arg_classes args)),
-     (λ e. sym (length-map rest class_of) ∙ ap length (append_cancel_left (flat_map arg_classes args) (map class_of rest) [] (sym whole ∙ e ∙ sym (append-nil (flat_map arg_classes args))))))
+    let whole : map class_of wires ≡ flat_map arg_classes args ++ map class_of rest = so_far ∙ ap (λ (xs : List Arg). flat_map arg_classes xs ++ map class_of rest) (ap (λ (k : ℕ). take k args) all ∙ take-length args) in (
+      (λ e. whole ∙ ap (λ (ws : List Wire). flat_map arg_classes args ++ map class_of ws) (nil_from_length rest e) ∙ append-nil (flat_map arg_classes args)),
+      (λ e. sym (length-map rest class_of) ∙ ap length (append_cancel_left (flat_map arg_classes args) (map class_of rest) [] (sym whole ∙ e ∙ sym (append-nil (flat_map arg_classes args))))),
+    )
 
 -- wires whose classes are n times one class are n wires
 pub all_one : (wires : List Wire) (class : Class) (n : ℕ) → map class_of wires ≡ replicate n class → map class_of wires ≡ replicate (length wires) class

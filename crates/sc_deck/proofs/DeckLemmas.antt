@@ -1,7 +1,7 @@
 -- One more body at the end of a deck.
-use Rattle.std.proofs.Common.{◌≡◌, ◌≢◌, ℕ, zero, suc, ◌+◌, ◌≤◌, ◌<◌, Bool, true, false, ◌||◌, List, [], ◌∷◌, ◌++◌, map, length, drop, get_or, slice_get, Option, Some, None, All, inl, inr, refl, sym, ap, ◌∙◌, subst, arith, length-append, append_assoc, append-nil, ◌⊎◌, AllPairs}
+use Rattle.std.proofs.Common.{◌≡◌, ◌≢◌, ℕ, zero, suc, ◌+◌, ◌≤◌, ◌<◌, Bool, true, false, ◌||◌, List, [], ◌∷◌, ◌++◌, map, length, drop, get_or, slice_get, Some, inl, inr, refl, sym, ap, ◌∙◌, subst, arith, length-append, append_assoc, append-nil, ◌⊎◌, AllPairs}
 use Rattle.std.specs.Prelude.{nat_eq, IsSomeAnd}
-use Rattle.std.specs.List.{AllByRecursion, list_any, filter_map}
+use Rattle.std.specs.List.{list_any}
 use Rattle.std.proofs.lemmas.Bool.{cases_lt, eqb-true}
 use Rattle.std.proofs.lemmas.List.{map-append, get_or-map, drop-append-le, length-map}
 use Rattle.std.proofs.lemmas.List.Elements.{All-push}
@@ -16,7 +16,7 @@ use Rattle.sc_deck.specs.declared.item.Item.TheVariants as item
 use Rattle.sc_deck.specs.declared.key.Key.{Key}
 use Rattle.sc_deck.specs.declared.entry.Entry.{Entry}
 use Rattle.sc_deck.specs.Bodies.{IsBody, wires_of}
-use Rattle.sc_deck.specs.Items.{callees_of, callee_of}
+use Rattle.sc_deck.specs.Items.{callees_of}
 use Rattle.sc_deck.specs.Keys.{HasLengths, params_of}
 use Rattle.sc_deck.specs.Modules.{Module, key_of, body_of, height_over, heights_of, reach_over, reaches_of, greatest_called, calls, is_called}
 use Rattle.sc_deck.specs.Decks.{CallsFit, CallEarlier, IsNewKey, IsDeck}
@@ -31,15 +31,15 @@ CallEarlier-push before (n ∷ modules) m earlier fit =
 
 pub IsDeck-push : (modules : List Module) (m : Module) → IsDeck modules → IsNewKey modules m.key → HasLengths m.key → IsBody (body_of m) → length modules < 65536 → CallsFit modules m.items → IsDeck (modules ++ m ∷ [])
 IsDeck-push modules m deck new lengths body room fit = record {
-    distinct = subst (λ (ks : List Key). AllPairs (λ k l. k ≢ l) ks) (sym (map-append key_of modules (m ∷ [])))
+  distinct = subst (λ (ks : List Key). AllPairs (λ k l. k ≢ l) ks) (sym (map-append key_of modules (m ∷ [])))
       (all_pairs_push (λ k l. k ≢ l) (map key_of modules) m.key deck.distinct
-        (λ k d below. let within : k < length modules = subst (λ (n : ℕ). k < n) (length-map modules key_of) below in
-          λ e. new k m within (sym (get_or-map key_of modules k m d within) ∙ e)));
-    lengths = All-push (λ n. HasLengths n.key) modules m deck.lengths lengths;
-    bodies = All-push (λ n. IsBody (body_of n)) modules m deck.bodies body;
-    calls = CallEarlier-push [] modules m deck.calls fit;
-    few = rw (length-append modules (m ∷ [])) (omega arith)
-  }
+      (λ k d below. let within : k < length modules = subst (λ (n : ℕ). k < n) (length-map modules key_of) below in
+      λ e. new k m within (sym (get_or-map key_of modules k m d within) ∙ e)));
+  lengths = All-push (λ n. HasLengths n.key) modules m deck.lengths lengths;
+  bodies = All-push (λ n. IsBody (body_of n)) modules m deck.bodies body;
+  calls = CallEarlier-push [] modules m deck.calls fit;
+  few = rw (length-append modules (m ∷ [])) (omega arith);
+}
 
 -- a callee is an earlier body
 callee_there : {X : Type 0} (P : X → Type 0) (xs : List X) (j : ℕ) → IsSomeAnd (slice_get xs j) P → j < length xs
@@ -77,14 +77,15 @@ last_uncalled modules m =
 
 -- the marks after a push
 marks_push : (modules : List Module) (m : Module) (marks now : List Bool) → CallsFit modules m.items → length marks ≡ length modules → length now ≡ length modules + 1 →
-  ((i : ℕ) → i < length modules → slice_get marks i ≡ Some (is_called modules i)) →
-  ((i : ℕ) → i < length (marks ++ false ∷ []) → get_or now i false ≡ (get_or (marks ++ false ∷ []) i false || list_any (nat_eq i) (callees_of m.items))) →
-  (i : ℕ) → i < length modules + 1 → slice_get now i ≡ Some (is_called (modules ++ m ∷ []) i)
+    ((i : ℕ) → i < length modules → slice_get marks i ≡ Some (is_called modules i)) →
+    ((i : ℕ) → i < length (marks ++ false ∷ []) → get_or now i false ≡ (get_or (marks ++ false ∷ []) i false || list_any (nat_eq i) (callees_of m.items))) →
+    (i : ℕ) → i < length modules + 1 → slice_get now i ≡ Some (is_called (modules ++ m ∷ []) i)
 marks_push modules m marks now fit old new were are i below =
     slice_get-get_or now i false (subst (λ (n : ℕ). i < n) (sym new) below) ∙ ap Some (are i (subst (λ (n : ℕ). i < n) (sym longer) below) ∙ by (cases_lt i (length modules)))
   where
     longer : length (marks ++ false ∷ []) ≡ length modules + 1
     longer = length-append marks (false ∷ []) ∙ ap (λ (n : ℕ). n + 1) old
+
     by : (i < length modules) ⊎ (length modules ≤ i) → (get_or (marks ++ false ∷ []) i false || list_any (nat_eq i) (callees_of m.items)) ≡ is_called (modules ++ m ∷ []) i
     by (inl early) =
         let there : i < length marks = subst (λ (n : ℕ). i < n) (sym old) early in
@@ -99,12 +100,12 @@ marks_push modules m marks now fit old new were are i below =
         ∙ ap (is_called (modules ++ m ∷ [])) (sym at)
 
 pub KeepsDeck-push : (entries : List (Key × Entry)) (marks now : List Bool) (key : Key) (entry : Entry) → KeepsDeck entries marks →
-  IsNewKey (modules_in entries) key → HasLengths key → entry.body.params ≡ params_of key → IsBody entry.body → length (modules_in entries) < 65536 → CallsFit (modules_in entries) entry.body.items →
-  entry.height ≡ greatest_called (map height_in entries) entry.body.items + 1 →
-  entry.reach ≡ greatest_called (map reach_in entries) entry.body.items + both (wires_of entry.body) →
-  length now ≡ length entries + 1 →
-  ((i : ℕ) → i < length (marks ++ false ∷ []) → get_or now i false ≡ (get_or (marks ++ false ∷ []) i false || list_any (nat_eq i) (callees_of entry.body.items))) →
-  KeepsDeck (entries ++ (key, entry) ∷ []) now
+    IsNewKey (modules_in entries) key → HasLengths key → entry.body.params ≡ params_of key → IsBody entry.body → length (modules_in entries) < 65536 → CallsFit (modules_in entries) entry.body.items →
+    entry.height ≡ greatest_called (map height_in entries) entry.body.items + 1 →
+    entry.reach ≡ greatest_called (map reach_in entries) entry.body.items + both (wires_of entry.body) →
+    length now ≡ length entries + 1 →
+    ((i : ℕ) → i < length (marks ++ false ∷ []) → get_or now i false ≡ (get_or (marks ++ false ∷ []) i false || list_any (nat_eq i) (callees_of entry.body.items))) →
+    KeepsDeck (entries ++ (key, entry) ∷ []) now
 KeepsDeck-push entries marks now key entry kept new lengths params body room fit height reach long are =
     let m : Module = module_in (key, entry) in
     let as_body : entry.body ≡ body_of m = λ i. record { params = params i; items = entry.body.items } in
@@ -114,15 +115,15 @@ KeepsDeck-push entries marks now key entry kept new lengths params body room fit
       sound = subst IsDeck (sym more) (IsDeck-push (modules_in entries) m kept.sound new lengths (subst IsBody as_body body) room fit);
       params = All-push (λ (p : Key × Entry). p.1.body.params ≡ params_of p.0) entries (key, entry) kept.params params;
       heights = map-append height_in entries ((key, entry) ∷ [])
-        ∙ (λ i. kept.heights i ++ (height ∙ ap (λ (hs : List ℕ). height_over hs m) kept.heights) i ∷ [])
-        ∙ sym (from_earlier-push height_over [] (modules_in entries) m)
-        ∙ ap heights_of (sym more);
+          ∙ (λ i. kept.heights i ++ (height ∙ ap (λ (hs : List ℕ). height_over hs m) kept.heights) i ∷ [])
+          ∙ sym (from_earlier-push height_over [] (modules_in entries) m)
+          ∙ ap heights_of (sym more);
       reaches = map-append reach_in entries ((key, entry) ∷ [])
-        ∙ (λ i. kept.reaches i ++ (reach ∙ (λ j. greatest_called (map reach_in entries) entry.body.items + both (wires_of (as_body j))) ∙ ap (λ (rs : List ℕ). reach_over rs m) kept.reaches) i ∷ [])
-        ∙ sym (from_earlier-push reach_over [] (modules_in entries) m)
-        ∙ ap reaches_of (sym more);
+          ∙ (λ i. kept.reaches i ++ (reach ∙ (λ j. greatest_called (map reach_in entries) entry.body.items + both (wires_of (as_body j))) ∙ ap (λ (rs : List ℕ). reach_over rs m) kept.reaches) i ∷ [])
+          ∙ sym (from_earlier-push reach_over [] (modules_in entries) m)
+          ∙ ap reaches_of (sym more);
       marked = long ∙ sym (length-append entries ((key, entry) ∷ []));
       called = λ i below. marks_push (modules_in entries) m marks now fit (kept.marked ∙ sym same) (long ∙ ap (λ (n : ℕ). n + 1) (sym same))
           (λ k h. kept.called k (subst (λ (n : ℕ). k < n) same h)) are i (subst (λ (n : ℕ). i < n) (length-append entries ((key, entry) ∷ []) ∙ ap (λ (n : ℕ). n + 1) (sym same)) below)
-        ∙ ap (λ (ms : List Module). Some (is_called ms i)) (sym more)
+          ∙ ap (λ (ms : List Module). Some (is_called ms i)) (sym more);
     }

@@ -1,5 +1,5 @@
 -- Values that are made from those of earlier modules: one more module, and bounds.
-use Rattle.std.proofs.Common.{◌≡◌, ℕ, zero, suc, ◌+◌, ◌*◌, ◌≤◌, ◌<◌, List, [], ◌∷◌, ◌++◌, map, length, refl, arith, All}
+use Rattle.std.proofs.Common.{◌≡◌, ℕ, zero, suc, ◌+◌, ◌*◌, ◌≤◌, List, [], ◌∷◌, ◌++◌, map, length, refl, arith}
 use Rattle.std.specs.Prelude.{slice_index}
 use Rattle.std.specs.List.{AllByRecursion}
 use Rattle.std.proofs.Math.Nat.{max-le}
@@ -42,8 +42,8 @@ grown b step [] = b
 grown b step (m ∷ modules) = grown (b + step) step modules
 
 earlier_within : (f : List ℕ → Module → ℕ) (step : ℕ) (P : Module → Type 0) →
-  ((b : ℕ) (done : List ℕ) (m : Module) → AllByRecursion (λ n. n ≤ b) done → P m → f done m ≤ b + step) →
-  (modules : List Module) → AllByRecursion P modules → (b : ℕ) (done : List ℕ) → AllByRecursion (λ n. n ≤ b) done → AllByRecursion (λ n. n ≤ grown b step modules) (from_earlier f done modules)
+    ((b : ℕ) (done : List ℕ) (m : Module) → AllByRecursion (λ n. n ≤ b) done → P m → f done m ≤ b + step) →
+    (modules : List Module) → AllByRecursion P modules → (b : ℕ) (done : List ℕ) → AllByRecursion (λ n. n ≤ b) done → AllByRecursion (λ n. n ≤ grown b step modules) (from_earlier f done modules)
 unfolding grown
 earlier_within f step P one [] each b done within = within
 earlier_within f step P one (m ∷ modules) each b done within =
@@ -71,12 +71,12 @@ weaker b c (n ∷ ns) le within = (let w = within.0 in omega arith, weaker b c n
 pub heights_within : (modules : List Module) → AllByRecursion (λ n. n ≤ length modules) (heights_of modules)
 heights_within modules =
     weaker (grown 0 1 modules) (length modules) (heights_of modules) (let h = grown_by_one 0 modules in omega arith)
-      (earlier_within height_over 1 (λ (m : Module). Unit {0}) (λ b done m within _. let h = called_within b done m.items within in omega arith) modules (each_module modules) 0 [] tt)
+    (earlier_within height_over 1 (λ (m : Module). Unit {0}) (λ b done m within _. let h = called_within b done m.items within in omega arith) modules (each_module modules) 0 [] tt)
 
 -- no reach is greater than 65,536 wires a module
 pub reaches_within : (modules : List Module) → IsDeck modules → AllByRecursion (λ n. n ≤ 65536 * length modules) (reaches_of modules)
 reaches_within modules deck =
     weaker (grown 0 65536 modules) (65536 * length modules) (reaches_of modules) (let h = grown_by_wires 0 modules in omega arith)
-      (earlier_within reach_over 65536 (λ (m : Module). IsBody (body_of m))
-        (λ b done m within body. let h = called_within b done m.items within in let narrow : both (wires_of (body_of m)) ≤ 65536 = body.narrow in omega arith)
-        modules (recursion_from_All (λ (m : Module). IsBody (body_of m)) modules deck.bodies) 0 [] tt)
+    (earlier_within reach_over 65536 (λ (m : Module). IsBody (body_of m))
+    (λ b done m within body. let h = called_within b done m.items within in let narrow : both (wires_of (body_of m)) ≤ 65536 = body.narrow in omega arith)
+    modules (recursion_from_All (λ (m : Module). IsBody (body_of m)) modules deck.bodies) 0 [] tt)

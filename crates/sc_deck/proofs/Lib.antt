@@ -4,4 +4,5 @@ pub mod CalleeLemmas
 pub mod DeckLemmas
 pub mod EarlierLemmas
 pub mod FindLemmas
+pub mod PushLemmas
 pub mod RepeatLemmas

@@ -1,5 +1,5 @@
 -- Keys of instances, and the parameter wires of a key.
-use Rattle.std.specs.Prelude.{ℕ, ◌≤◌, Bool, true, false, ◌&&◌, nat_eq, List, [], ◌∷◌, replicate, flat_map, fold, All, codes}
+use Rattle.std.specs.Prelude.{◌≤◌, Bool, false, ◌&&◌, nat_eq, List, [], ◌∷◌, replicate, flat_map, fold, All, codes}
 use Rattle.std.specs.Ordering.{int_eq}
 use Rattle.std.specs.Cmp.Lexicographic.{pointwise}
 use Rattle.sc_base.specs.declared.names.Class.{Class}

@@ -1,4 +1,4 @@
-use Rattle.std.proofs.Common.{◌≡◌, ◌∙◌, sym, ap, max, map, take, arith}
+use Rattle.std.proofs.Common.{map}
 use Rattle.sc_deck.specs.Entries.{height_in, reach_in}
 use Rattle.sc_deck.proofs.CalleeLemmas.{called_more}
 use Rattle.sc_deck.proofs.deck.called_by_all.Goals as goal

@@ -5,6 +5,6 @@ use Rattle.sc_deck.proofs.deck.called_by_all.Given as goal
 
 abbrev pub invariant-loop-item : goal.invariant-loop-item
 invariant-loop-item l = record {
-    height : l.height ≡ greatest_called (map height_in l.entries.entries) (take l.item-index l.items);
-    reach : l.reach ≡ greatest_called (map reach_in l.entries.entries) (take l.item-index l.items);
-  }
+  height : l.height ≡ greatest_called (map height_in l.entries.entries) (take l.item-index l.items);
+  reach : l.reach ≡ greatest_called (map reach_in l.entries.entries) (take l.item-index l.items);
+}

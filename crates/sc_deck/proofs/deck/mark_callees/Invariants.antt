@@ -6,6 +6,6 @@ use Rattle.sc_deck.proofs.deck.mark_callees.Given as goal
 
 abbrev pub invariant-loop-item : goal.invariant-loop-item
 invariant-loop-item l = record {
-    len : length l.marks ≡ length l.fn.marks;
-    marked : (i : ℕ) → i < length l.fn.marks → get_or l.marks i false ≡ (get_or l.fn.marks i false || list_any (nat_eq i) (callees_of (take l.item-index l.items)));
-  }
+  len : length l.marks ≡ length l.fn.marks;
+  marked : (i : ℕ) → i < length l.fn.marks → get_or l.marks i false ≡ (get_or l.fn.marks i false || list_any (nat_eq i) (callees_of (take l.item-index l.items)));
+}

@@ -10,8 +10,8 @@ returns-then-wires-count-clause-none c =
 pub returns-then-not-all_of_class-clause-none : goal.returns-then-not-all_of_class-clause-none
 returns-then-not-all_of_class-clause-none c =
     λ rest e. true≢false (sym (c.if-not-all_of_class.ensures.1
-      (all_one (take c.class_and_count-class.result.1 c.args.wires.now) c.class_and_count-class.result.0 _
-        (front_classes c.args.wires.now c.class_and_count-class.result.0 c.class_and_count-class.result.1 rest (e ∙ ap (λ (cs : List Class). cs ++ rest) c.class_and_count-class.ensures)))))
+    (all_one (take c.class_and_count-class.result.1 c.args.wires.now) c.class_and_count-class.result.0 _
+    (front_classes c.args.wires.now c.class_and_count-class.result.0 c.class_and_count-class.result.1 rest (e ∙ ap (λ (cs : List Class). cs ++ rest) c.class_and_count-class.ensures)))))
 
 pub returns-clause-taken : goal.returns-clause-taken
 returns-clause-taken c =

@@ -1,5 +1,4 @@
 use Rattle.std.proofs.Common.{sym}
-use Rattle.std.specs.Prelude.{List}
 use Rattle.sc_deck.proofs.FindLemmas.{find_at, find_none}
 use Rattle.sc_deck.proofs.deck.Deck.find.Goals as goal
 
