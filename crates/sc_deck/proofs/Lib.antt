@@ -6,3 +6,5 @@ pub mod EarlierLemmas
 pub mod FindLemmas
 pub mod PushLemmas
 pub mod RepeatLemmas
+pub mod SequenceLaws
+pub mod TurnLaws

@@ -1,9 +1,12 @@
 pub mod Bodies
 pub mod Decks
 pub mod Entries
+pub mod Events
 pub mod Items
 pub mod KeyLaws
 pub mod Keys
 pub mod Modules
 pub mod Numbers
 pub mod Repeats
+pub mod Turns
+pub mod Unfolding
