@@ -4,6 +4,7 @@ pub mod CalleeLemmas
 pub mod DeckLemmas
 pub mod EarlierLemmas
 pub mod FindLemmas
+pub mod GateTests
 pub mod PushLemmas
 pub mod RepeatLemmas
 pub mod SequenceLaws
