@@ -5,6 +5,7 @@ pub mod DeckLemmas
 pub mod EarlierLemmas
 pub mod FindLemmas
 pub mod GateTests
+pub mod PlaceLaws
 pub mod PushLemmas
 pub mod RepeatLemmas
 pub mod SequenceLaws

@@ -7,6 +7,7 @@ pub mod KeyLaws
 pub mod Keys
 pub mod Modules
 pub mod Numbers
+pub mod Renaming
 pub mod Repeats
 pub mod Turns
 pub mod Unfolding
