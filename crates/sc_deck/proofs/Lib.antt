@@ -7,6 +7,7 @@ pub mod FindLemmas
 pub mod GateTests
 pub mod PlaceLaws
 pub mod PushLemmas
+pub mod RenameLaws
 pub mod RepeatLemmas
 pub mod SequenceLaws
 pub mod TurnLaws

@@ -79,12 +79,12 @@ length-from_earlier f done (m ∷ modules) =
 pub length-unfoldings : (modules : List Module) → length (unfoldings modules) ≡ length modules
 length-unfoldings modules = let h = length-from_earlier unfold_module [] modules in omega arith
 
-unfolding_at-before : (us more : List Unfolding) (i : ℕ) → i < length us → unfolding_at (us ++ more) i ≡ unfolding_at us i
+pub unfolding_at-before : (us more : List Unfolding) (i : ℕ) → i < length us → unfolding_at (us ++ more) i ≡ unfolding_at us i
 unfolding_at-before [] more i below = absurd (omega arith)
 unfolding_at-before (u ∷ us) more zero below = refl
 unfolding_at-before (u ∷ us) more (suc i) below = let lt : i < length us = omega arith in λ k wires next. unfolding_at-before us more i lt k wires next
 
-unfolding_at-seam : (us : List Unfolding) (u : Unfolding) (more : List Unfolding) → unfolding_at (us ++ u ∷ more) (length us) ≡ u
+pub unfolding_at-seam : (us : List Unfolding) (u : Unfolding) (more : List Unfolding) → unfolding_at (us ++ u ∷ more) (length us) ≡ u
 unfolding_at-seam [] u more = refl
 unfolding_at-seam (v ∷ us) u more = λ k wires next. unfolding_at-seam us u more k wires next
 
