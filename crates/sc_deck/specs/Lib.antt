@@ -2,6 +2,7 @@ pub mod Bodies
 pub mod Decks
 pub mod Entries
 pub mod Events
+pub mod Hierarchical
 pub mod Items
 pub mod KeyLaws
 pub mod Keys

@@ -20,6 +20,14 @@ written_out (item.Call callee wires) = item.Call callee wires ∷ []
 written_out (item.Gates gate turns) = replicate turns (item.Gate gate)
 written_out (item.Calls callee wires turns) = replicate turns (item.Call callee wires)
 
+-- the item has two turns or more
+abbrev pub has_turns : Item → Bool
+has_turns (item.Fresh class n) = false
+has_turns (item.Gate gate) = false
+has_turns (item.Call callee wires) = false
+has_turns (item.Gates gate turns) = true
+has_turns (item.Calls callee wires turns) = true
+
 -- the angle or the start value of a kind, as a number
 abbrev pub value_of : Kind → ℤ
 value_of (kind.Rx angle) = angle.0
