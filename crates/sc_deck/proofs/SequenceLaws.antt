@@ -10,7 +10,7 @@ use Rattle.sc_deck.specs.declared.item.Item.TheVariants as item
 use Rattle.sc_deck.specs.Events.{Event, Enter, Fresh, Apply, Return, gates_in, after_events, fresh_in, rename_gate}
 use Rattle.sc_deck.specs.Modules.{Module, from_earlier}
 use Rattle.sc_deck.specs.Numbers.{Numbers, number_of, with_more, no_wires}
-use Rattle.sc_deck.specs.Unfolding.{Unfolding, unfolding_at, unfold_item, unfold_items, unfold_module, unfoldings, unfold_on, made_by, repeated, placed}
+use Rattle.sc_deck.specs.Unfolding.{Unfolding, unfolding_at, unfold_item, unfold_items, unfold_module, unfoldings, unfold_on, made_by, places_after, repeated, placed}
 use Rattle.sc_deck.proofs.EarlierLemmas.{from_earlier-push}
 
 pub gates_in-append : (xs ys : List Event) → gates_in (xs ++ ys) ≡ gates_in xs ++ gates_in ys
@@ -26,11 +26,6 @@ after_events-append next (Enter key wires ∷ xs) ys = after_events-append next 
 after_events-append next (Fresh class n ∷ xs) ys = after_events-append (with_more class n next) xs ys
 after_events-append next (Apply gate ∷ xs) ys = after_events-append next xs ys
 after_events-append next (Return key ∷ xs) ys = after_events-append next xs ys
-
--- the wires of a body after items
-abbrev pub places_after : List Unfolding → List Item → List Wire → Numbers → List Wire
-places_after us [] places next = places
-places_after us (i ∷ items) places next = places_after us items (places ++ made_by i next) (after_events next (unfold_item us i places next))
 
 -- ITEMS IN SEQUENCE: the events of two lists are those of the first and then those of the second, from where the first ends
 pub unfold_items-append : (us : List Unfolding) (items more : List Item) (places : List Wire) (next : Numbers) →

@@ -14,9 +14,9 @@ use Rattle.sc_deck.specs.Keys.{param_classes, params_of}
 use Rattle.sc_deck.specs.Modules.{Module, from_earlier}
 use Rattle.sc_deck.specs.Numbers.{Numbers, no_wires}
 use Rattle.sc_deck.specs.Turns.{written_out, same_gate, same_call, joined, with_folded, folded, folded_module, folded_modules}
-use Rattle.sc_deck.specs.Unfolding.{Unfolding, unfolding_at, unfold_item, unfold_items, unfold_module, unfoldings, unfold_on, expansion, numbered, made_by, repeated, placed}
+use Rattle.sc_deck.specs.Unfolding.{Unfolding, unfolding_at, unfold_item, unfold_items, unfold_module, unfoldings, unfold_on, expansion, numbered, made_by, places_after, repeated, placed}
 use Rattle.sc_deck.proofs.GateTests.{same_gate-true, same_call-true}
-use Rattle.sc_deck.proofs.SequenceLaws.{places_after, unfold_items-append, repeated-more}
+use Rattle.sc_deck.proofs.SequenceLaws.{unfold_items-append}
 
 -- an item that makes no wires, again and again
 again : (us : List Unfolding) (i : Item) → ((next : Numbers) → made_by i next ≡ []) → (n : ℕ) (places : List Wire) (next : Numbers) → unfold_items us (replicate n i) places next ≡ repeated n (λ k. unfold_item us i places k) next

@@ -64,6 +64,11 @@ unfold_items us (i ∷ items) places next =
     let events : List Event = unfold_item us i places next in
     events ++ unfold_items us items (places ++ made_by i next) (after_events next events)
 
+-- the wires of a body after items
+abbrev pub places_after : List Unfolding → List Item → List Wire → Numbers → List Wire
+places_after us [] places next = places
+places_after us (i ∷ items) places next = places_after us items (places ++ made_by i next) (after_events next (unfold_item us i places next))
+
 -- from the entering to the return
 abbrev pub unfold_module : List Unfolding → Module → Unfolding
 unfold_module us m wires next = Enter m.key wires ∷ (unfold_items us m.items wires next ++ Return m.key ∷ [])
