@@ -1,7 +1,7 @@
 -- One more item at the end of a body.
 use Rattle.std.proofs.Common.{◌≡◌, ℕ, ◌+◌, ◌≤◌, List, [], ◌∷◌, ◌++◌, refl, sym, ap, ◌∙◌, subst}
 use Rattle.sc_deck.specs.declared.item.Item.{Item}
-use Rattle.sc_deck.specs.Bodies.{Contents, after_items, wires_of, ItemsFit, IsBody, with_item, Counts}
+use Rattle.sc_deck.specs.Bodies.{Contents, after_items, wires_of, ItemsFit, with_item, Counts}
 use Rattle.sc_deck.specs.Items.{after_item, ItemFits}
 use Rattle.sc_deck.specs.Numbers.{Numbers, both}
 
@@ -20,8 +20,8 @@ counts_push body wires i kept here room =
       counted = more;
       sound = record {
         fits = ItemsFit-push body.params body.items i kept.sound.fits here;
-        narrow = subst (λ n. both n ≤ 65536) more room
-      }
+        narrow = subst (λ n. both n ≤ 65536) more room;
+      };
     }
 
 pub counted_narrow : (body : Contents) (wires : Numbers) → Counts body wires → both wires ≤ 65536
@@ -31,7 +31,7 @@ counted_narrow body wires kept = subst (λ n. both n ≤ 65536) (sym kept.counte
 pub counts_more : (body : Contents) (wires : Numbers) (i : Item) (seen : Contents) (items : List Item) → Counts body wires → body ≡ seen → items ≡ body.items ++ i ∷ [] → ItemFits (wires_of seen) i → both (after_item wires i) ≤ 65536 → Counts (record { params = body.params; items = items }) (after_item wires i)
 counts_more body wires i seen items kept is more here room =
     subst (λ l. Counts (record { params = body.params; items = l }) (after_item wires i)) (sym more)
-      (counts_push body wires i kept (subst (λ b. ItemFits (wires_of b) i) (sym is) here) room)
+    (counts_push body wires i kept (subst (λ b. ItemFits (wires_of b) i) (sym is) here) room)
 
 pub room_left : (body : Contents) (wires : Numbers) (seen : Contents) (n : ℕ) → Counts body wires → body ≡ seen → both (wires_of seen) + n ≤ 65536 → both wires + n ≤ 65536
 room_left body wires seen n kept is room =

@@ -1,11 +1,11 @@
 -- Lists of distinct wires, one wire longer.
-use Rattle.std.proofs.Common.{◌≡◌, ◌≢◌, ℕ, ◌+◌, ◌<◌, ◌≤◌, Bool, true, false, List, [], ◌∷◌, ◌++◌, length, take, get_or, All, Contains, inl, inr, refl, sym, ap, ◌∙◌, subst, arith, true≢false, length-set, get_or-set_same, get_or-set_other}
+use Rattle.std.proofs.Common.{◌≡◌, ◌≢◌, ℕ, ◌+◌, ◌<◌, ◌≤◌, Bool, true, false, List, [], ◌∷◌, ◌++◌, length, take, get_or, All, Contains, inl, inr, sym, ap, ◌∙◌, subst, arith, true≢false, length-set, get_or-set_same, get_or-set_other}
 use Rattle.std.proofs.Math.ListN.{set}
 use Rattle.std.proofs.lemmas.Bool.{cases_eq}
 use Rattle.std.proofs.lemmas.List.Elements.{Contains-push, Contains-append_left}
 use Rattle.sc_base.specs.declared.names.Class.{Class}
 use Rattle.sc_base.specs.declared.names.Class.TheVariants.{Q, C}
-use Rattle.sc_deck.specs.Repeats.{StandsEarlier, place_at, place_of}
+use Rattle.sc_deck.specs.Repeats.{place_at, place_of}
 use Rattle.sc_gate.specs.declared.gate.Wire.{Wire}
 use Rattle.sc_gate.specs.Gates.{AreDistinct, IsNew}
 use Rattle.std.proofs.lemmas.List.{take_more}
@@ -52,11 +52,11 @@ pub record Table (wires : List Wire) (i : ℕ) (seen : List Bool) : Type 0 where
 
 pub table_none : (wires : List Wire) (seen : List Bool) → length seen ≡ 131072 → All (λ mark. mark ≡ false) seen → Table wires 0 seen
 table_none wires seen size fresh = record {
-    size = size;
-    distinct = tt;
-    marked = λ w below mark. absurd (true≢false (sym mark ∙ fresh (place_of w) false (within w below)));
-    unmarked = λ w below mark. tt
-  }
+  size = size;
+  distinct = tt;
+  marked = λ w below mark. absurd (true≢false (sym mark ∙ fresh (place_of w) false (within w below)));
+  unmarked = λ w below mark. tt;
+}
   where
     within : (w : Wire) → w.number < 65536 → place_of w < length seen
     within w below = place_within w seen size below
@@ -69,11 +69,13 @@ table_mark wires i seen d below table small mark =
       size = length-set seen (place_of v) true ∙ table.size;
       distinct = AreDistinct-more wires i d below table.distinct (table.unmarked v small mark);
       marked = λ w b m. elim (cases_eq (place_of w) (place_of v)) [
-          inl e ↦ subst (λ x. Contains (take (i + 1) wires) x) (sym (same_place w v b small e)) (rw (take_more wires i d below) (Contains-push (take i wires) v))
-        | inr n ↦ rw (take_more wires i d below) (Contains-append_left (take i wires) (v ∷ []) w (table.marked w b (sym (get_or-set_other seen (place_of v) (place_of w) true false n) ∙ m))) ];
+        | inl e ↦ subst (λ x. Contains (take (i + 1) wires) x) (sym (same_place w v b small e)) (rw (take_more wires i d below) (Contains-push (take i wires) v))
+        | inr n ↦ rw (take_more wires i d below) (Contains-append_left (take i wires) (v ∷ []) w (table.marked w b (sym (get_or-set_other seen (place_of v) (place_of w) true false n) ∙ m)))
+      ];
       unmarked = λ w b m. elim (cases_eq (place_of w) (place_of v)) [
-          inl e ↦ absurd (true≢false (sym (ap (λ p. get_or (set seen (place_of v) true) p false) e ∙ get_or-set_same seen (place_of v) true false (place_within v seen table.size small)) ∙ m))
-        | inr n ↦ IsNew-more w wires i d below (table.unmarked w b (sym (get_or-set_other seen (place_of v) (place_of w) true false n) ∙ m)) (λ e. n (ap place_of e)) ]
+        | inl e ↦ absurd (true≢false (sym (ap (λ p. get_or (set seen (place_of v) true) p false) e ∙ get_or-set_same seen (place_of v) true false (place_within v seen table.size small)) ∙ m))
+        | inr n ↦ IsNew-more w wires i d below (table.unmarked w b (sym (get_or-set_other seen (place_of v) (place_of w) true false n) ∙ m)) (λ e. n (ap place_of e))
+      ];
     }
 
 -- a wire with no place in the table is none of the earlier ones
@@ -83,7 +85,7 @@ table_past wires i seen d below table large new =
       size = table.size;
       distinct = AreDistinct-more wires i d below table.distinct new;
       marked = λ w b m. rw (take_more wires i d below) (Contains-append_left (take i wires) (get_or wires i d ∷ []) w (table.marked w b m));
-      unmarked = λ w b m. IsNew-more w wires i d below (table.unmarked w b m) (λ e. apart w b e)
+      unmarked = λ w b m. IsNew-more w wires i d below (table.unmarked w b m) (λ e. apart w b e);
     }
   where
     apart : (w : Wire) → w.number < 65536 → w ≢ get_or wires i d

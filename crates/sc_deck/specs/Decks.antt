@@ -7,7 +7,7 @@ use Rattle.sc_gate.specs.Gates.{class_of}
 use Rattle.sc_deck.specs.declared.item.Item.{Item}
 use Rattle.sc_deck.specs.declared.item.Item.TheVariants as item
 use Rattle.sc_deck.specs.declared.key.Key.{Key}
-use Rattle.sc_deck.specs.Bodies.{Contents, IsBody}
+use Rattle.sc_deck.specs.Bodies.{IsBody}
 use Rattle.sc_deck.specs.Keys.{param_classes, HasLengths, main_key}
 use Rattle.sc_deck.specs.Modules.{Module, key_of, body_of, is_called}
 

@@ -61,20 +61,21 @@ pub same_arg_decides : (a b : Arg) → Decides (same_arg a b) (a ≡ b)
 same_arg_decides a b = (equal_args a b, at_equal same_arg own_arg a b)
 
 pub same_key_decides : (a b : Key) → Decides (same_key a b) (a ≡ b)
-same_key_decides a b =
-    (λ h. let p = both_true (pointwise nat_eq a.name b.name) (pointwise same_arg a.args b.args) h in
-        let e = (bytes_decides a.name b.name).0 p.0 in
-        let f = (pointwise_decides same_arg_decides a.args b.args).0 p.1 in
-        λ i. record { name = e i; args = f i },
-     at_equal same_key (λ k. and_true _ _ ((bytes_decides k.name k.name).1 refl) ((pointwise_decides same_arg_decides k.args k.args).1 refl)) a b)
+same_key_decides a b = (
+  λ h. let p = both_true (pointwise nat_eq a.name b.name) (pointwise same_arg a.args b.args) h in
+      let e = (bytes_decides a.name b.name).0 p.0 in
+      let f = (pointwise_decides same_arg_decides a.args b.args).0 p.1 in
+      λ i. record { name = e i; args = f i },
+  at_equal same_key (λ k. and_true _ _ ((bytes_decides k.name k.name).1 refl) ((pointwise_decides same_arg_decides k.args k.args).1 refl)) a b,
+)
 
 -- a test that decides equality is an equivalence
 decided_equivalence : {K : Type 0} (E : K → K → Bool) → ((x y : K) → Decides (E x y) (x ≡ y)) → IsEquivalence E
 decided_equivalence E decides = record {
-    refl = λ x. (decides x x).1 refl;
-    symm = λ x y. both_ways x y (E x y) (E y x) refl refl;
-    congr = λ x y z h. ap (λ k. E k z) ((decides x y).0 h)
-  }
+  refl = λ x. (decides x x).1 refl;
+  symm = λ x y. both_ways x y (E x y) (E y x) refl refl;
+  congr = λ x y z h. ap (λ k. E k z) ((decides x y).0 h);
+}
   where
     both_ways : (x y : _) (s t : Bool) → E x y ≡ s → E y x ≡ t → E x y ≡ E y x
     both_ways x y true t p q = p ∙ sym ((decides y x).1 (sym ((decides x y).0 p)))

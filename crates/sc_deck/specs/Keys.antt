@@ -1,10 +1,10 @@
 -- Keys of instances, and the parameter wires of a key.
-use Rattle.std.specs.Prelude.{ℕ, ◌≤◌, Bool, true, false, ◌&&◌, nat_eq, List, [], ◌∷◌, replicate, flat_map, fold, All, codes}
+use Rattle.std.specs.Prelude.{◌≤◌, Bool, false, ◌&&◌, nat_eq, List, [], ◌∷◌, replicate, flat_map, fold, All, codes}
 use Rattle.std.specs.Ordering.{int_eq}
 use Rattle.std.specs.Cmp.Lexicographic.{pointwise}
 use Rattle.sc_base.specs.declared.names.Class.{Class}
 use Rattle.sc_gate.specs.Wires.{same_class}
-use Rattle.sc_deck.specs.Numbers.{Numbers, with_more}
+use Rattle.sc_deck.specs.Numbers.{Numbers, no_wires, with_more}
 use Rattle.sc_deck.specs.declared.key.Arg.{Arg}
 use Rattle.sc_deck.specs.declared.key.Arg.TheVariants.{Int, Double, One, Many}
 use Rattle.sc_deck.specs.declared.key.Key.{Key}
@@ -40,7 +40,7 @@ with_arg numbers (Many class n) = with_more class n numbers
 
 -- how many parameter wires of each class a key has
 abbrev pub params_of : Key → Numbers
-params_of key = fold with_arg (record { qubits = 0; cbits = 0 }) key.args
+params_of key = fold with_arg no_wires key.args
 
 -- an array has at least one wire
 abbrev pub HasLength : Arg → Type 0

@@ -1,5 +1,5 @@
 -- Keys with items, and what each has from those before it.
-use Rattle.std.specs.Prelude.{ℕ, ◌+◌, max, List, [], ◌∷◌, ◌++◌, map, Bool, nat_eq, slice_index, drop, suc}
+use Rattle.std.specs.Prelude.{ℕ, ◌+◌, max, List, [], ◌∷◌, ◌++◌, map, Bool, nat_eq, slice_index, drop}
 use Rattle.std.specs.List.{list_any}
 use Rattle.sc_deck.specs.declared.item.Item.{Item}
 use Rattle.sc_deck.specs.declared.key.Key.{Key}

@@ -13,6 +13,9 @@ abbrev pub number_of : Class → Numbers → ℕ
 number_of Q numbers = numbers.qubits
 number_of C numbers = numbers.cbits
 
+abbrev pub no_wires : Numbers
+no_wires = record { qubits = 0; cbits = 0 }
+
 -- n more of one class
 abbrev pub with_more : Class → ℕ → Numbers → Numbers
 with_more Q n numbers = record numbers { qubits = numbers.qubits + n }

@@ -33,7 +33,8 @@ impl PartialEq for Key {
     ghost laws = { partial_equiv_from_equiv same_key_laws };
 
     fn eq(&self, other: &Key) -> bool {
-        self.name.as_bytes() == other.name.as_bytes() && self.args.as_slice() == other.args.as_slice()
+        self.name.as_bytes() == other.name.as_bytes()
+            && self.args.as_slice() == other.args.as_slice()
     }
 }
 

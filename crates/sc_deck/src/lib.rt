@@ -6,6 +6,7 @@ mod deck;
 mod entry;
 mod item;
 mod key;
+pub mod laws;
 mod repeat;
 
 pub use body::Body;
