@@ -1,9 +1,11 @@
 //! Tokens and trees of the language.
 #![tactic(auto)]
 
+mod kind;
 mod token;
 mod tree;
 
+pub use kind::Kind;
 pub use token::{Mark, Token, TokenSort, Word};
 pub use tree::{
     Act, BinOp, Bind, Call, Callee, Decl, Expr, Init, Link, Measure, Module, Name, Node, NumSort,
