@@ -7,6 +7,7 @@ use Rattle.sc_syntax.specs.declared.tree.BinOp.{BinOp}
 use Rattle.sc_syntax.specs.declared.tree.SetOp.{SetOp}
 use Rattle.sc_syntax.specs.declared.tree.SetOp.TheVariants as set
 use Rattle.sc_syntax.specs.declared.tree.Expr.{Expr}
+use Rattle.sc_syntax.specs.declared.tree.Link.{Link}
 use Rattle.sc_syntax.specs.declared.tree.Node.{Node, Int, Decimal, Name, Index', Paren', Unary', Chain', Pick', Row_of-Link, end_of-Link, more_of-Link}
 use Rattle.sc_syntax.specs.declared.tree.Stmt.{Stmt}
 use Rattle.sc_syntax.specs.declared.tree.Act.{Act, Wires, Numbers, Set, Measure, Call, If', While', For', Block', Empty, Held-Act-If-2, None', Some', Row_of-Stmt, end_of-Stmt, more_of-Stmt}
@@ -52,6 +53,9 @@ abbrev mutual
 
 abbrev pub IsFormedExpr : Expr → Type 0
 IsFormedExpr e = IsFormedNode e.node
+
+abbrev pub IsFormedLink : Link → Type 0
+IsFormedLink l = IsFormedExpr l.right
 
 abbrev pub IsFormedOption : Option Expr → Type 0
 IsFormedOption None = Unit {0}

@@ -5,6 +5,7 @@ use Rattle.sc_syntax.specs.declared.tree.WordOp.{WordOp}
 use Rattle.sc_syntax.specs.declared.tree.Width.{Width}
 use Rattle.sc_syntax.specs.declared.tree.ShiftLink.{ShiftLink}
 use Rattle.sc_syntax.specs.declared.tree.WordExpr.{WordExpr}
+use Rattle.sc_syntax.specs.declared.tree.WordLink.{WordLink}
 use Rattle.sc_syntax.specs.declared.tree.WordNode.{WordNode, Int, Name, Paren', Not', Chain', Shift', Pick', Ext', Low', Row_of-WordLink, end_of-WordLink, more_of-WordLink}
 use Rattle.sc_syntax.specs.declared.tree.WordParam.{WordParam}
 use Rattle.sc_syntax.specs.declared.tree.Bind.{Bind}
@@ -53,6 +54,9 @@ abbrev mutual
 
 abbrev pub IsFormedWordExpr : WordExpr → Type 0
 IsFormedWordExpr e = IsFormedWordNode e.node
+
+abbrev pub IsFormedWordLink : WordLink → Type 0
+IsFormedWordLink l = IsFormedWordExpr l.right
 
 abbrev pub IsFormedWordParam : WordParam → Type 0
 IsFormedWordParam p = IsName p.name.text × IsFormedWidth p.width
