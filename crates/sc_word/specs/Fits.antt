@@ -1,10 +1,9 @@
 -- The widths in a typed tree fit.
 use Rattle.std.specs.Prelude.{◌≡◌, ℕ, ◌^◌, ◌<◌, ◌≤◌, slice_index, List, [], ◌∷◌, ◌++◌, length}
-use Rattle.std.specs.List.{All}
 use Rattle.sc_syntax.specs.declared.ShiftLink.{ShiftLink}
 use Rattle.sc_word.specs.declared.tree.TypedExpr.{TypedExpr}
 use Rattle.sc_word.specs.declared.tree.TypedNode.{TypedNode, Literal, Word, Not', Chain', Shift', Pick', Ext', Low', Row_of-TypedLink, end_of-TypedLink, more_of-TypedLink}
-use Rattle.sc_word.specs.Words.{IsWidth}
+use Rattle.sc_word.specs.Words.{IsWidth, AreWidths}
 use Rattle.sc_word.specs.Forms.{amount, op_width}
 use Rattle.sc_word.specs.Typed.{IsLiteral, OpFits, TypedWords}
 
@@ -37,6 +36,6 @@ TypedAll widths (b ∷ bs) e = TypedExprAs widths b × TypedAll (widths ++ b.wid
 
 -- what every typed function keeps
 pub record IsWellTyped (t : TypedWords) : Type 0 where
-  pub params : All IsWidth t.params
+  pub params : AreWidths t.params
   pub trees : TypedAll t.params t.binds t.returned
   pub width : IsWidth t.returned.width

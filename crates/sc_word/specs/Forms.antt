@@ -1,5 +1,5 @@
 -- The width of a word expression, and which expressions are bare literals.
-use Rattle.std.specs.Prelude.{ℕ, nat_abs, Option, Some, None, List, [], ◌∷◌}
+use Rattle.std.specs.Prelude.{ℕ, unsigned_abs, Option, Some, None, List, [], ◌∷◌}
 use Rattle.sc_syntax.specs.declared.Width.{Width}
 use Rattle.sc_syntax.specs.declared.WordOp.{WordOp}
 use Rattle.sc_syntax.specs.declared.WordOp.TheVariants as op
@@ -12,7 +12,7 @@ use Rattle.sc_word.specs.Words.{Words, width_named}
 
 -- a stated width or shift number; it is not negative
 abbrev pub amount : Width → ℕ
-amount width = nat_abs width.value
+amount width = unsigned_abs width.value
 
 -- the width of a word; a bare literal has none of its own
 abbrev pub own_width : Form → ℕ
@@ -33,7 +33,7 @@ op_width _ w = w
 -- a bare literal is a number, also in parentheses; all else is a word of a width
 abbrev mutual
   pub form_node : Words → WordNode → Form
-  form_node ws (Int n) = Bare (nat_abs n)
+  form_node ws (Int n) = Bare (unsigned_abs n)
   form_node ws (Name t) = Wide (width_named ws t)
   form_node ws (Paren' b p n) = form_node ws n
   form_node ws (Not' b p n) = Wide (own_width (form_node ws n))

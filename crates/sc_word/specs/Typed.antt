@@ -1,5 +1,5 @@
 -- The typed tree of a word expression and of a classical function.
-use Rattle.std.specs.Prelude.{◌≡◌, ◌≢◌, ℕ, ◌^◌, ◌<◌, ◌≤◌, nat_abs, Option, Some, None, List, [], ◌∷◌, ◌++◌, map}
+use Rattle.std.specs.Prelude.{◌≡◌, ◌≢◌, ℕ, ◌^◌, ◌<◌, ◌≤◌, unsigned_abs, Option, Some, None, List, [], ◌∷◌, ◌++◌, map}
 use Rattle.sc_syntax.specs.declared.WordOp.{WordOp}
 use Rattle.sc_syntax.specs.declared.WordOp.TheVariants as op
 use Rattle.sc_syntax.specs.declared.ShiftLink.{ShiftLink}
@@ -28,7 +28,7 @@ OpFits _ w = 0 < w
 -- the typed node of this width is that of the node; parentheses leave no node, and `ext` of a bare literal is a literal
 abbrev mutual
   pub TypesAs : Words → WordNode → ℕ → TypedNode → Type 0
-  TypesAs ws (source.Int n) w (Literal v) = (v ≡ nat_abs n) × IsLiteral v w
+  TypesAs ws (source.Int n) w (Literal v) = (v ≡ unsigned_abs n) × IsLiteral v w
   TypesAs ws (source.Name t) w (Word i) = (number_of ws t ≡ Some i) × (width_at ws i ≡ w)
   TypesAs ws (source.Paren' b p n) w e = TypesAs ws n w e
   TypesAs ws (source.Not' b p n) w (Not' c x e) = TypesAs ws n x e × (x ≡ w)
