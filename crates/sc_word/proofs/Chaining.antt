@@ -1,6 +1,5 @@
 -- A chain of operators, link by link.
 use Rattle.std.proofs.Common.{◌≡◌, ◌≢◌, true, ℕ, zero, suc, ◌+◌, ◌<◌, ◌≤◌, List, [], ◌∷◌, ◌++◌, length, take, drop, Option, Some, None, refl, sym, ap, ◌∙◌, subst, arith}
-use mathlib.Core.Former.{Count, none_left}
 use Rattle.std.specs.declared.boxed.Box.{Box}
 use Rattle.std.specs.declared.vec.Vec.{Vec}
 use Rattle.std.specs.declared.alloc.Global.{Global}
@@ -33,6 +32,7 @@ use Rattle.sc_word.specs.Forms.{own_width, shared, op_width, form_node, form, ro
 use Rattle.sc_word.specs.Checks.{first_fault, no_literal, meet, op_fits, width_rule}
 use Rattle.sc_word.specs.Typed.{TypesAs, TypesRow, TypesExpr, OpFits}
 use Rattle.sc_word.specs.Operands.{or_else, fault_node, fault_row, fault_links, fault_expr, form_of, with_width, TypesOperand, Walked, IsJoined, IsChain, LinksAs, InChain, Chained, chain_form, first_of, links_of}
+use Rattle.sc_word.proofs.TypedRows.{typed_links_of}
 use Rattle.sc_word.proofs.Operating.{neither, first_stands, second_stands, passes, Takes, takes_by, suits_own, both_by, wide_is_width, types_width, op_is_width, Suits}
 
 -- ---- rows as lists
@@ -56,11 +56,6 @@ row_width_links ws a (more_of-WordLink o place q n rest) = row_width_links ws (W
 pub form_chain : (ws : Words) (first : Box WordExpr Global) (links : Vec WordLink Global) → form_node ws (source.Chain first links) ≡ Wide (links_width ws (form ws first.value) links.items)
 form_chain ws first links =
     ap Wide (over_word_links (λ m row. row_width ws (form ws first.value) row) (links_width ws (form ws first.value)) (λ m row. row_width_links ws (form ws first.value) row) first links)
-
--- the links of a typed chain
-abbrev typed_links_of : TypedNode → (m : Count) × Row_of-TypedLink m
-typed_links_of (typed.Chain' b x n shape row) = (_, row)
-typed_links_of _ = (none_left, end_of-TypedLink)
 
 types_row : {m k : _} (ws : Words) (x w : ℕ) (row : Row_of-WordLink m) (links : Row_of-TypedLink k) → LinksAs ws x w (items-the_row-WordLink m row) (items-the_row-TypedLink k links) → TypesRow ws row x w links
 types_row ws x w end_of-WordLink end_of-TypedLink h = h

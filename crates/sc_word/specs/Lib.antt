@@ -1,6 +1,7 @@
 pub mod Checks
 pub mod Fits
 pub mod Forms
+pub mod Functions
 pub mod Operands
 pub mod Scratch
 pub mod Typed

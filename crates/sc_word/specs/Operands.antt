@@ -1,5 +1,5 @@
 -- What the walk of an expression gives, and its first fault: what the functions of this crate promise one another.
-use Rattle.std.specs.Prelude.{◌≡◌, ℕ, ◌≤◌, Option, Some, None, List, [], ◌∷◌, ◌++◌, length, map}
+use Rattle.std.specs.Prelude.{◌≡◌, ◌+◌, ℕ, ◌≤◌, Option, Some, None, List, [], ◌∷◌, ◌++◌, length, map}
 use Rattle.std.specs.declared.alloc.Global.{Global}
 use Rattle.std.specs.declared.boxed.Box.{Box}
 use Rattle.std.specs.declared.vec.Vec.{Vec}
@@ -7,6 +7,8 @@ use Rattle.sc_base.specs.declared.Place.{Place}
 use Rattle.sc_syntax.specs.declared.Width.{Width}
 use Rattle.sc_syntax.specs.declared.WordOp.{WordOp}
 use Rattle.sc_syntax.specs.declared.ShiftLink.{ShiftLink}
+use Rattle.sc_syntax.specs.declared.WordParam.{WordParam}
+use Rattle.sc_syntax.specs.declared.Bind.{Bind}
 use Rattle.sc_syntax.specs.declared.WordExpr.{WordExpr}
 use Rattle.sc_syntax.specs.declared.WordLink.{WordLink}
 use Rattle.sc_syntax.specs.declared.WordNode.{WordNode, Int, Name, Paren', Not', Chain', Shift', Pick', Ext', Low', Row_of-WordLink, end_of-WordLink, more_of-WordLink}
@@ -23,8 +25,8 @@ use Rattle.sc_word.specs.declared.chain.Chain.TheVariants.{Start, Joined}
 use Rattle.sc_word.specs.declared.tree.WordFault.{WordFault}
 use Rattle.sc_word.specs.Words.{Words, number_of, width_at, widths_of, AreWidths}
 use Rattle.sc_word.specs.Forms.{amount, own_width, shared, op_width, form_node, form, links_width}
-use Rattle.sc_word.specs.Checks.{first_fault, is_known, no_literal, shift_fits, bare_test, meet, wide_test, ext_checks, low_checks, op_fits}
-use Rattle.sc_word.specs.Typed.{TypesAs, TypesExpr, OpFits}
+use Rattle.sc_word.specs.Checks.{first_fault, is_known, is_new, bind_word, param_word, checks_params, result_fits, no_literal, shift_fits, bare_test, meet, wide_test, ext_checks, low_checks, op_fits}
+use Rattle.sc_word.specs.Typed.{TypesAs, TypesExpr, TypesBinds, OpFits}
 
 -- the first of two faults, where there is one
 abbrev pub or_else : Option WordFault → Option WordFault → Option WordFault
@@ -172,3 +174,38 @@ pub record Chained (ws : Words) (at : Place) (p : Place) (n : WordNode) (done re
   pub so_far : InChain ws n done chain
   pub fault : fault_links ws at p (chain_form chain) rest ≡ fault_links ws at p (form_node ws n) all
   pub width : links_width ws (chain_form chain) rest ≡ links_width ws (form_node ws n) all
+
+-- ---- functions
+
+-- the first fault of the bindings and the returned expression
+abbrev pub fault_binds : Words → List Bind → WordExpr → ℕ → Option WordFault
+fault_binds ws [] result w = or_else (fault_expr ws result) (first_fault (result_fits result.place (form ws result) w ∷ []))
+fault_binds ws (b ∷ bs) result w =
+    or_else (fault_expr ws b.value) (or_else (first_fault (no_literal b.value.place (form ws b.value) ∷ is_new ws b.name ∷ []))
+    (fault_binds (ws ++ bind_word ws b ∷ []) bs result w))
+
+-- the typed expression of a binding
+pub record Bound (ws : Words) (e : WordExpr) (t : TypedExpr) : Type 0 where
+  pub fault : or_else (fault_expr ws e) (first_fault (no_literal e.place (form ws e) ∷ [])) ≡ None
+  pub width : own_width (form ws e) ≡ t.width
+  pub tree : TypesExpr ws e t
+
+-- the typed expression that is returned
+pub record Returned (ws : Words) (e : WordExpr) (w : ℕ) (t : TypedExpr) : Type 0 where
+  pub fault : or_else (fault_expr ws e) (first_fault (result_fits e.place (form ws e) w ∷ [])) ≡ None
+  pub width : t.width ≡ w
+  pub tree : TypesExpr ws e t
+
+-- after some bindings: what the rest comes to
+pub record GoesOn (from : Words) (all : List Bind) (made : List TypedExpr) (ws : Words) (rest : List Bind) (result : WordExpr) (w : ℕ) : Type 0 where
+  pub scope : AreWidths (widths_of ws)
+  pub count : length ws + length rest ≤ length from + length all
+  pub fault : fault_binds ws rest result w ≡ fault_binds from all result w
+  pub trees : (more : List TypedExpr) (t : TypedExpr) → TypesBinds ws rest result more t → TypesBinds from all result (made ++ more) t
+
+-- after some parameters: the words and widths so far, and what the rest comes to
+pub record Declaring (done rest all : List WordParam) (ws : Words) (widths : List ℕ) : Type 0 where
+  pub words : ws ≡ map param_word done
+  pub widths_are : widths ≡ map (λ p. amount p.width) done
+  pub bounds : AreWidths (widths_of ws)
+  pub fault : first_fault (checks_params ws rest) ≡ first_fault (checks_params [] all)

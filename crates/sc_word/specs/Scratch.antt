@@ -1,9 +1,10 @@
 -- How many scratch qubits the gates of a classical function use.
-use Rattle.std.specs.Prelude.{ℕ, zero, suc, ◌+◌, ◌-◌, ◌*◌, min, List, [], ◌∷◌, sum_by}
+use Rattle.std.specs.Prelude.{ℕ, ◌+◌, ◌-◌, ◌*◌, min, List, [], ◌∷◌, sum_by}
 use Rattle.sc_syntax.specs.declared.WordOp.{WordOp}
 use Rattle.sc_syntax.specs.declared.WordOp.TheVariants as op
 use Rattle.sc_syntax.specs.declared.ShiftLink.{ShiftLink}
 use Rattle.sc_word.specs.declared.tree.TypedExpr.{TypedExpr}
+use Rattle.sc_word.specs.declared.tree.TypedLink.{TypedLink}
 use Rattle.sc_word.specs.declared.tree.TypedNode.{TypedNode, Literal, Word, Not', Chain', Shift', Pick', Ext', Low', Row_of-TypedLink, end_of-TypedLink, more_of-TypedLink}
 use Rattle.sc_word.specs.Forms.{amount, op_width}
 use Rattle.sc_word.specs.Typed.{TypedWords}
@@ -54,3 +55,8 @@ scratch e = scratch_node e.width e.node
 -- the bindings and the returned expression
 abbrev pub fn_scratch : TypedWords → ℕ
 fn_scratch t = sum_by scratch t.binds + scratch t.returned
+
+-- the same over the links as a list
+abbrev pub scratch_links : ℕ → List TypedLink → ℕ
+scratch_links w [] = 0
+scratch_links w (l ∷ ls) = scratch l.right + op_scratch l.op w + scratch_links (op_width l.op w) ls

@@ -38,7 +38,7 @@ fn parts(alloc: Global, chain: Chain, width: u32) -> (TypedExpr, Vec<TypedLink>)
     }
 }
 
-fn op_width(op: WordOp, width: u32) -> u32
+pub(crate) fn op_width(op: WordOp, width: u32) -> u32
     ensures { result ≡ width_of_op op width }
 {
     match op {

@@ -3,10 +3,15 @@
 
 mod chain;
 mod form;
+mod function;
 mod operand;
 mod rules;
+mod scratch;
 mod tree;
+mod typed_fn;
 mod walk;
 mod words;
 
+pub use function::typed;
 pub use tree::{TypedExpr, TypedLink, TypedNode, WordFault};
+pub use typed_fn::TypedFn;
