@@ -13,3 +13,4 @@ pub mod Rows
 pub mod Reserved
 pub mod Spaces
 pub mod TokenLists
+pub mod Reserved
