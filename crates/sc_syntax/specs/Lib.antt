@@ -1,10 +1,10 @@
 pub mod Bytes
 pub mod Cuts
-pub mod Lexing
+pub mod Directives
 pub mod Marks
 pub mod Names
 pub mod Pieces
-pub mod Rows
 pub mod Reserved
+pub mod Rows
 pub mod Spaces
 pub mod TokenLists

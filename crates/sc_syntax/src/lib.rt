@@ -2,13 +2,12 @@
 #![tactic(auto)]
 
 mod bytes;
-mod lexing;
+mod define;
 mod piece;
 mod reading;
 mod token;
 mod tree;
 
-pub use lexing::{LexFault, lex};
 pub use token::{Mark, Token, TokenSort, Tokens, Word};
 pub use tree::{
     Act, BinOp, Bind, Call, Callee, Decl, Expr, Init, Link, Measure, Module, Name, Node, NumSort,
