@@ -29,4 +29,5 @@ pub record ShelfState : Type 0 where
   pub listed : List ℕ
   -- how many calls were made
   pub calls : ℕ
+  -- how many calls failed
   pub faults : ℕ

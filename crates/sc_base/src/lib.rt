@@ -1,6 +1,11 @@
-//! Lists, texts, shelves and sinks.
+//! What every crate of the compiler stands on: lists and texts that contracts see as lists, shelves that
+//! texts are read from, sinks that bytes are written to, decimal text, and the names of gates.
+//!
+//! A call that needs memory may answer `Memory`, and then leaves what it works on as it was. A shelf and a
+//! sink count their faults, and each of their errors is tied to that count.
 #![tactic(auto)]
 
+mod decimal;
 mod list;
 mod mem_shelf;
 mod mem_sink;
@@ -11,6 +16,7 @@ mod sink;
 mod sure;
 mod text;
 
+pub use decimal::put_u128;
 pub use list::List;
 pub use mem_shelf::{Held, MemShelf};
 pub use mem_sink::MemSink;
@@ -18,14 +24,30 @@ pub use names::{Class, Fixed, GateName, Place};
 pub use real::{RealShelf, RealSink};
 pub use shelf::{ReadAllFault, Shelf, read_all};
 pub use sink::{Sink, write_all};
+use std::alloc::{AllocError, AllocFailed};
 pub use sure::{SureShelf, SureSink};
 pub use text::Text;
 
+/// There is not enough memory. What the call works on is left as it was.
 #[derive(Clone, Copy, Debug, PartialEq, Eq)]
 pub struct Memory;
 
+impl From<AllocError> for Memory {
+    fn from(_: AllocError) -> Self {
+        Memory
+    }
+}
+
+impl<T: Drop> From<AllocFailed<T>> for Memory {
+    fn from(_: AllocFailed<T>) -> Self {
+        Memory
+    }
+}
+
+/// A call of a shelf or a sink failed, and its count of faults rose.
 #[derive(Clone, Copy, Debug, PartialEq, Eq)]
 pub struct Failed;
 
+/// A sink failed while a text was written to it. It holds a prefix of the text then.
 #[derive(Clone, Copy, Debug, PartialEq, Eq)]
 pub struct WriteFault;

@@ -1,5 +1,5 @@
 //! A shelf in memory.
-ghost use Rattle.std.specs.Prelude.{◌≡◌, ◌<◌, ◌≤◌, ◌++◌, ◌∷◌, [], ◌↔◌, ◌||◌, ◌==◌, ℕ, List, IsTrue, true, false, length, take, IfOk, OnOk, OnErr, IsErr, if◌then◌else◌, IfSome, MatchOption};
+ghost use Rattle.std.specs.Prelude.{◌≡◌, ◌<◌, ◌≤◌, ◌++◌, ◌∷◌, [], ◌↔◌, ◌||◌, ℕ, List, IsTrue, length, take, IfOk, OnOk, OnErr, IsErr, is_err, is_none, if◌then◌else◌, MatchOption};
 ghost use Rattle.sc_base.specs.Causes.{HasCause};
 ghost use Rattle.sc_base.specs.Texts.{text_under, text_at, same};
 ghost use Rattle.sc_base.specs.States.{next, lists};
@@ -17,9 +17,12 @@ pub struct Held {
     pub text: Text,
 }
 
+/// A shelf that keeps its texts in memory and always tells them. Calls that are listed fail, and so does
+/// `begin` of a name that is not held; no other call fails. Contracts see it as a `ShelfState`.
 #[derive(Drop)]
 pub struct MemShelf {
     alloc: Global,
+    // in order of `put`: the last text of a name is the one that is held
     texts: Vec<Held>,
     // the place of the begun text, and how much of it was read; past the last text where none is begun
     begun: usize,
@@ -46,7 +49,7 @@ impl Model for MemShelf {
     ghost invariant = { λ s. s.at ≤ length (text_at s.texts.items s.begun) };
 }
 
-/// The place of the newest text under a name.
+/// The place of the text that is held under a name, the last with that name.
 fn find_text(texts: &[Held], name: &[u8]) -> Option<usize>
     ensures { MatchOption result (text_under None texts.now name.now ≡ None)
         (λ i. text_under None texts.now name.now ≡ Some (text_at texts.now i)) }
@@ -60,6 +63,7 @@ fn find_text(texts: &[Held], name: &[u8]) -> Option<usize>
     found
 }
 
+/// The text at a place, and nothing past the last.
 fn begun_text(texts: &[Held], begun: usize) -> &[u8]
     ensures { result.now ≡ text_at texts.now begun }
 {
@@ -69,6 +73,7 @@ fn begun_text(texts: &[Held], begun: usize) -> &[u8]
     }
 }
 
+/// Appends a text and its name.
 fn add_text(alloc: Global, texts: &mut Vec<Held>, name: &[u8], bytes: &[u8]) -> Result<(), Memory>
     ensures ok { OnOk result (texts.new.items ≡ texts.old.items ++ record { name = name.now; text = bytes.now } ∷ []) }
     ensures err { OnErr result (texts.new.items ≡ texts.old.items) }
@@ -82,6 +87,7 @@ fn add_text(alloc: Global, texts: &mut Vec<Held>, name: &[u8], bytes: &[u8]) -> 
 }
 
 impl MemShelf {
+    /// A shelf that holds nothing, with no text begun and no call listed.
     pub fn new(alloc: Global) -> MemShelf
         ensures { result ≡ record { texts = []; rest = []; listed = []; calls = 0; faults = 0 } }
     {
@@ -96,7 +102,7 @@ impl MemShelf {
         }
     }
 
-    /// Holds the bytes under the name, in the place of what was held there. No text is begun then.
+    /// Holds the bytes under the name, in the place of a text that was held there. No text is begun then.
     pub fn put(&mut self, name: &[u8], bytes: &[u8]) -> Result<(), Memory>
         ensures ok { OnOk result ((q : List ℕ) → text_under None self.new.texts q ≡
             (if same name.now q then Some bytes.now else text_under None self.old.texts q)) }
@@ -110,7 +116,7 @@ impl MemShelf {
         Ok(())
     }
 
-    /// The call with this number fails, counted from 1 over `begin` and `read`.
+    /// Lists a call, which then fails. Calls are numbered from 1 over `begin` and `read`.
     pub fn fail_at(&mut self, call: u64) -> Result<(), Memory>
         ensures ok { OnOk result (self.new ≡ record self.old { listed = self.old.listed ++ call ∷ [] }) }
         ensures err { OnErr result (self.new ≡ self.old) }
@@ -141,10 +147,10 @@ impl Shelf for MemShelf {
         ensures none_begun { OnErr result (self.new.rest ≡ []) }
         ensures cause { HasCause self.old.faults self.new.faults result }
 
-        ensures fails { OnErr result (lists self.old.listed (next self.old.calls) ≡ false → text_under None self.old.texts name.now ≡ None) }
-        ensures listed { lists self.old.listed (next self.old.calls) ≡ true → IsErr result }
+        ensures fails { IsErr result ↔ IsTrue (lists self.old.listed (next self.old.calls) || is_none (text_under None self.old.texts name.now)) }
         ensures calls { self.new.calls ≡ next self.old.calls }
         ensures list { self.new.listed ≡ self.old.listed }
+        ensures faults { self.new.faults ≡ (if is_err result then next self.old.faults else self.old.faults) }
     {
         self.calls = self.calls.saturating_add(1);
         self.begun = self.texts.len();
@@ -172,9 +178,10 @@ impl Shelf for MemShelf {
         ensures end { IfOk result (λ n. n ≡ 0 → 0 < length buf.old → self.old.rest ≡ []) }
         ensures cause { HasCause self.old.faults self.new.faults result }
 
-        ensures fails { IsErr result ↔ (lists self.old.listed (next self.old.calls) ≡ true) }
+        ensures fails { IsErr result ↔ IsTrue (lists self.old.listed (next self.old.calls)) }
         ensures calls { self.new.calls ≡ next self.old.calls }
         ensures list { self.new.listed ≡ self.old.listed }
+        ensures faults { self.new.faults ≡ (if is_err result then next self.old.faults else self.old.faults) }
         ensures kept { OnErr result (self.new.rest ≡ self.old.rest) }
     {
         self.calls = self.calls.saturating_add(1);

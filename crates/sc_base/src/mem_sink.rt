@@ -1,4 +1,4 @@
-//! A sink in memory, with room that is set aside.
+//! A sink in memory, whose room is set aside when it is made.
 ghost use Rattle.std.specs.Prelude.{◌≡◌, ◌<◌, ◌≤◌, ◌++◌, ◌∷◌, [], ◌↔◌, ◌||◌, ◌==◌, IsTrue, true, false, length, take, IfOk, OnOk, OnErr, IsErr};
 ghost use Rattle.sc_base.specs.Causes.{HasCause};
 ghost use Rattle.sc_base.specs.States.{new_sink, lists, fails_next, takes, sink_after_write, sink_after_finish};
@@ -7,10 +7,13 @@ use crate::{Failed, List, Memory, Sink};
 use std::alloc::Global;
 use std::marker::Model;
 
+/// A sink that keeps its bytes in memory and always tells them. A write takes at most `piece` bytes, and all
+/// writes together at most `room`. Calls that are listed fail. Contracts see it as a `SinkState`.
 #[derive(Drop)]
 pub struct MemSink {
     bytes: Vec<u8>,
     piece: usize,
+    // how many more bytes fit
     room: usize,
     listed: List<u64>,
     calls: u64,
@@ -34,11 +37,11 @@ impl Model for MemSink {
       is_ended = s.is_ended;
     } };
 
-    ghost invariant = { λ s. length s.bytes.items + s.room ≤ vec_capacity s.bytes };
+    ghost invariant = { λ s. (length s.bytes.items + s.room ≤ vec_capacity s.bytes) × (0 < s.piece) };
 }
 
 impl MemSink {
-    /// A `write` takes at most `piece` bytes, and all of them at most `room`.
+    /// A sink that holds nothing, is not ended and has no call listed. It reserves `room` bytes.
     pub fn new(alloc: Global, piece: usize, room: usize) -> Result<MemSink, Memory>
         requires { 0 < piece }
         ensures { IfOk result (λ sink. sink ≡ new_sink piece room) }
@@ -57,7 +60,7 @@ impl MemSink {
         }
     }
 
-    /// The call with this number fails, counted from 1 over `write` and `finish`.
+    /// Lists a call, which then fails. Calls are numbered from 1 over `write` and `finish`.
     pub fn fail_at(&mut self, call: u64) -> Result<(), Memory>
         ensures ok { OnOk result (self.new ≡ record self.old { listed = self.old.listed ++ call ∷ [] }) }
         ensures err { OnErr result (self.new ≡ self.old) }
@@ -66,6 +69,7 @@ impl MemSink {
         Ok(())
     }
 
+    /// The bytes written.
     pub fn written(&self) -> &[u8]
         ensures { result.now ≡ self.now.bytes }
     {
@@ -95,15 +99,15 @@ impl Sink for MemSink {
         ensures cause { HasCause self.old.faults self.new.faults result }
 
         ensures count { IfOk result (λ n. n ≡ takes self.old (length piece.now)) }
-        ensures fails { IsErr result ↔ IsTrue (fails_next self.old || takes self.old (length piece.now) == 0) }
+        ensures fails { IsErr result ↔ IsTrue (fails_next self.old || self.old.room == 0) }
         ensures state { self.new ≡ sink_after_write self.old piece.now }
     {
         self.calls = self.calls.saturating_add(1);
-        let count = self.piece.min(piece.len()).min(self.room);
-        if is_listed(self.listed.as_slice(), self.calls) || count == 0 {
+        if is_listed(self.listed.as_slice(), self.calls) || self.room == 0 {
             self.faults = self.faults.saturating_add(1);
             return Err(Failed);
         }
+        let count = self.piece.min(piece.len()).min(self.room);
         self.bytes.extend_from_slice(&piece[..count]).unwrap();
         self.room -= count;
         Ok(count)
@@ -133,6 +137,7 @@ impl Sink for MemSink {
     }
 }
 
+/// Whether the call with this number is listed.
 pub(crate) fn is_listed(listed: &[u64], number: u64) -> bool
     ensures { result ≡ lists listed.now number }
 {

@@ -1,18 +1,19 @@
 //! Places in a source, fixed-point numbers, wire classes and gate names.
 
-/// Where something stands in a source. Line and column count from 1; the column counts bytes.
+/// Where something stands in a source. Lines and columns count from 1; a column counts bytes.
 #[derive(Clone, Copy, Debug, PartialEq, Eq)]
 pub struct Place {
     pub line: u32,
     pub column: u32,
 }
 
-/// A `double` of the language: a whole number of units of 10^-12.
-#[derive(Clone, Copy, Debug, PartialEq, Eq)]
+/// A `double` of the language: a whole number of units of 10^-12, from -9223372036854775808 to
+/// 9223372036854775807 units.
+#[derive(Clone, Copy, Debug, PartialEq, Eq, Hash)]
 pub struct Fixed(pub i64);
 
-/// What a wire carries: a qubit or a classical bit.
-#[derive(Clone, Copy, Debug, PartialEq, Eq)]
+/// What a wire carries: a qubit (`Q`) or a classical bit (`C`).
+#[derive(Clone, Copy, Debug, PartialEq, Eq, Hash)]
 pub enum Class {
     Q,
     C,

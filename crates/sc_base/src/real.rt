@@ -1,13 +1,15 @@
 //! The trusted edge: files, standard input and standard output. Nothing is told of their content.
-ghost use Rattle.std.specs.Prelude.{◌≡◌, ◌≤◌, false, true, IsErr};
+ghost use Rattle.std.specs.Prelude.{◌≡◌, ◌≤◌, false, true, IfOk, IsErr};
 ghost use Rattle.sc_base.specs.Causes.{HasCause};
 
-use crate::{Failed, Shelf, Sink};
+use crate::{Failed, Memory, Shelf, Sink};
+use std::alloc::Global;
 use std::fs::File;
-use std::io::{Read, Stdin, Write};
+use std::io::{BufWriter, Read, Stdin, Write};
 use std::{fs, str};
 
-/// Files by their names, and standard input under `-`.
+/// Files by their names, and standard input under the name `-`. A name that is not UTF-8 or that cannot be
+/// opened is a fault, and so is a read that fails.
 #[derive(Drop)]
 pub struct RealShelf {
     rt: HostRuntime,
@@ -16,6 +18,7 @@ pub struct RealShelf {
     faults: u64,
 }
 
+/// What is being read.
 #[derive(Drop)]
 enum Begun {
     Nothing,
@@ -24,7 +27,10 @@ enum Begun {
 }
 
 impl RealShelf {
-    pub fn new(rt: HostRuntime) -> RealShelf {
+    /// No text is begun, and no fault is counted.
+    pub fn new(rt: HostRuntime) -> RealShelf
+        ensures { ⟦<RealShelf as Shelf>⟧.faults result ≡ 0 }
+    {
         let input = rt.stdin();
         RealShelf {
             rt,
@@ -34,6 +40,7 @@ impl RealShelf {
         }
     }
 
+    /// Counts a fault. No text is begun then.
     fn fail<T>(&mut self) -> Result<T, Failed>
         ensures { HasCause self.old.faults self.new.faults result × IsErr result }
     {
@@ -89,23 +96,41 @@ impl Shelf for RealShelf {
     ghost both_told = { λ s told. told };
 }
 
-/// A writer of std, as standard output.
+/// How many bytes a `RealSink` gathers before it writes them out.
+const GATHERED: usize = 65_536;
+
+/// A writer of std, such as standard output, behind a buffer that is written out when it is full and at
+/// `finish`. A write of the writer that fails or takes 0 bytes is a fault.
 #[derive(Drop)]
 pub struct RealSink<W: Write + Drop> {
-    inner: W,
+    inner: BufWriter<W>,
     faults: u64,
     is_ended: bool,
 }
 
 impl<W: Write + Drop> RealSink<W> {
-    pub fn new(inner: W) -> RealSink<W>
-        ensures { ⟦<RealSink<W> as Sink>⟧.is_ended result ≡ false }
+    /// Makes the buffer, and writes nothing. The sink is not ended, and no fault is counted.
+    pub fn new(alloc: Global, inner: W) -> Result<RealSink<W>, Memory>
+        ensures open { IfOk result (λ sink. ⟦<RealSink<W> as Sink>⟧.is_ended sink ≡ false) }
+        ensures faults { IfOk result (λ sink. ⟦<RealSink<W> as Sink>⟧.faults sink ≡ 0) }
     {
-        RealSink {
-            inner,
-            faults: 0,
-            is_ended: false,
+        match BufWriter::with_capacity(alloc, GATHERED, inner) {
+            Ok(inner) => Ok(RealSink {
+                inner,
+                faults: 0,
+                is_ended: false,
+            }),
+            Err(_) => Err(Memory),
         }
+    }
+
+    /// Counts a fault.
+    fn fail<T>(&mut self) -> Result<T, Failed>
+        ensures cause { HasCause self.old.faults self.new.faults result × IsErr result }
+        ensures open { self.new.is_ended ≡ self.old.is_ended }
+    {
+        self.faults = self.faults.saturating_add(1);
+        Err(Failed)
     }
 }
 
@@ -122,10 +147,7 @@ impl<W: Write + Drop> Sink for RealSink<W> {
 
     fn write(&mut self, piece: &[u8]) -> Result<usize, Failed> {
         match self.inner.write(piece) {
-            Ok(0) | Err(_) => {
-                self.faults = self.faults.saturating_add(1);
-                Err(Failed)
-            }
+            Ok(0) | Err(_) => self.fail(),
             Ok(count) => Ok(count),
         }
     }
@@ -136,10 +158,7 @@ impl<W: Write + Drop> Sink for RealSink<W> {
                 self.is_ended = true;
                 Ok(())
             }
-            Err(_) => {
-                self.faults = self.faults.saturating_add(1);
-                Err(Failed)
-            }
+            Err(_) => self.fail(),
         }
     }
 

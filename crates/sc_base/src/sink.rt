@@ -5,6 +5,9 @@ ghost use Rattle.sc_base.specs.Output.{Wrote, WrotePrefix};
 
 use crate::{Failed, WriteFault};
 
+/// Bytes are written to it until it is ended.
+///
+/// No call changes whether it tells its bytes.
 pub trait Sink {
     /// Whether the bytes written are told.
     ghost tells: { Self → Bool };
@@ -12,13 +15,14 @@ pub trait Sink {
     /// The bytes written, where they are told.
     ghost bytes: { Self → List ℕ };
 
-    /// How often the sink has failed.
+    /// How often the sink has failed. The count never falls, and stays at 18446744073709551615.
     ghost faults: { Self → ℕ };
 
     /// Whether the sink is ended.
     ghost is_ended: { Self → Bool };
 
-    /// Appends a front part of the piece, and answers its length.
+    /// Appends the first bytes of a nonempty piece, at least one, and answers their number. It fails only
+    /// where the count of faults rises, and then appends nothing. The sink is not ended before and after.
     fn write(&mut self, piece: &[u8]) -> Result<usize, Failed>
         requires open { is_ended self.old ≡ false }
         requires nonempty { 0 < length piece.now }
@@ -30,7 +34,8 @@ pub trait Sink {
         ensures unchanged { OnErr result (IsTrue (tells self.old) → bytes self.new ≡ bytes self.old) }
         ensures cause { HasCause (faults self.old) (faults self.new) result };
 
-    /// Ends the sink.
+    /// Ends the sink, which is not ended before, and appends nothing. It fails only where the count of faults
+    /// rises; then the sink is still not ended.
     fn finish(&mut self) -> Result<(), Failed>
         requires open { is_ended self.old ≡ false }
         ensures tells { tells self.new ≡ tells self.old }
@@ -39,11 +44,13 @@ pub trait Sink {
         ensures open { OnErr result (is_ended self.new ≡ false) }
         ensures cause { HasCause (faults self.old) (faults self.new) result };
 
+    /// Whether the sink is ended.
     fn ended(&self) -> bool
         ensures { result ≡ is_ended self.now };
 }
 
-/// Appends the bytes, or a prefix of them at a fault.
+/// Appends the bytes. It answers `WriteFault` only where the sink's count of faults rose, and then a prefix of
+/// the bytes was appended. The sink is not ended before and after.
 pub fn write_all<O: Sink>(out: &mut O, bytes: &[u8]) -> Result<(), WriteFault>
     requires open { O.is_ended out.old ≡ false }
     ensures open { O.is_ended out.new ≡ false }

@@ -5,7 +5,8 @@ use crate::text::copy_front;
 use crate::{Failed, Shelf, Sink, Text};
 use std::marker::Model;
 
-/// One text under every name.
+/// One text under every name, always told. No call fails, and its count of faults is the constant 0. Contracts
+/// see it as a `SureState`.
 #[derive(Drop)]
 pub struct SureShelf {
     text: Text,
@@ -24,7 +25,7 @@ impl Model for SureShelf {
 }
 
 impl SureShelf {
-    /// No text is begun.
+    /// A shelf that holds the text under every name. No text is begun.
     pub fn new(text: Text) -> SureShelf
         ensures { result ≡ record { text = text; rest = [] } }
     {
@@ -60,13 +61,13 @@ impl Shelf for SureShelf {
     ghost both_told = { λ s told. told };
 }
 
-/// Takes every byte and keeps none.
+/// Takes every byte, keeps none and does not tell them. No call fails, and its count of faults is the constant
+/// 0. Contracts see it as whether it is ended.
 #[derive(Drop)]
 pub struct SureSink {
     is_ended: bool,
 }
 
-// Whether it is ended.
 impl Model for SureSink {
     ghost use Rattle.std.specs.Prelude.{Bool};
 
@@ -76,6 +77,7 @@ impl Model for SureSink {
 }
 
 impl SureSink {
+    /// A sink that is not ended.
     pub fn new() -> SureSink
         ensures { result ≡ false }
     {

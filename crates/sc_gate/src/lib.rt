@@ -2,5 +2,10 @@
 #![tactic(auto)]
 
 mod gate;
+pub mod laws;
+mod line;
+mod times;
 
-pub use gate::{Gate, Kind, Wire};
+pub use gate::{Gate, Kind, Wire, arity, cancels, depends, same_kind, well_formed, wire_at};
+pub use line::{gate_name, write_gate};
+pub use times::Times;

@@ -1,5 +1,5 @@
-use Rattle.std.proofs.Common.{◌≡◌, ◌≤◌, ◌+◌, ◌-◌, ℕ, ◌++◌, IsTrue, length, Some}
-use Rattle.sc_base.proofs.shelf.read_all.Given as goal
+use Rattle.std.proofs.Common.{◌≡◌, ◌≤◌, ◌-◌, ◌++◌, IsTrue, length}
+use Rattle.sc_base.proofs.shelf.read_rest.Given as goal
 
 abbrev pub invariant-loop-text : goal.invariant-loop-text
 invariant-loop-text g l = record {
@@ -8,7 +8,7 @@ invariant-loop-text g l = record {
   tells_rest : g.F.Shelf.tells_rest l.shelf ≡ g.F.Shelf.tells_rest l.fn.shelf;
   later : g.F.Shelf.faults l.fn.shelf ≤ g.F.Shelf.faults l.shelf;
   within : length l.text ≤ l.limit;
-  whole : IsTrue (g.F.Shelf.tells_held l.fn.shelf) → g.F.Shelf.held l.fn.shelf l.name ≡ Some (l.text ++ g.F.Shelf.rest l.shelf);
+  whole : IsTrue (g.F.Shelf.tells_rest l.fn.shelf) → g.F.Shelf.rest l.fn.shelf ≡ l.text ++ g.F.Shelf.rest l.shelf;
 }
 
 abbrev pub decreases-loop-text : goal.decreases-loop-text
