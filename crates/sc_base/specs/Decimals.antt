@@ -1,8 +1,6 @@
 -- Decimal literals, and the text of a fixed-point number, which counts units of 10^-12.
 -- Whole numbers and digits are those of std: `decimal n`, `AllDigits`, `IsNumeral`, `digits_value`.
-use Rattle.std.specs.Prelude.{◌≡◌, ℕ, ◌-◌, ◌/◌, ◌%◌, ◌^◌, ℤ, List, ◌∷◌, ◌++◌, length, take, replicate, decimal, unsigned_abs}
-use Rattle.std.specs.Fmt.{sign_text}
-use Rattle.std.specs.Int.{is_negative}
+use Rattle.std.specs.Prelude.{◌≡◌, ℕ, ◌+◌, ◌-◌, ◌/◌, ◌%◌, ◌^◌, ℤ, pos, negsuc, List, ◌∷◌, ◌++◌, length, take, replicate, decimal}
 use Rattle.std.specs.Str.Parse.{IsNumeral, digits_value}
 
 -- exactly twelve decimals: those past the twelfth are dropped, and zeros stand for missing ones
@@ -22,7 +20,11 @@ pub record IsDecimal (text : List ℕ) (units : ℕ) : Type 0 where
 unfoldable pub twelve_digits : ℕ → List ℕ
 twelve_digits n = replicate (12 - length (decimal n)) 48 ++ decimal n
 
--- the text of a number of units: a minus where it is negative, the whole part, a point and twelve decimals
-unfoldable pub fixed_text : ℤ → List ℕ
-fixed_text units =
-    sign_text (is_negative units) ++ decimal (unsigned_abs units / 10 ^ 12) ++ 46 ∷ twelve_digits (unsigned_abs units % 10 ^ 12)
+-- the text of a number of units of at least 0: the whole part, a point and twelve decimals
+unfoldable pub units_text : ℕ → List ℕ
+units_text units = decimal (units / 10 ^ 12) ++ 46 ∷ twelve_digits (units % 10 ^ 12)
+
+-- the text of a fixed-point number: that of its units, with a minus before it where it is negative
+abbrev pub fixed_text : ℤ → List ℕ
+fixed_text (pos units) = units_text units
+fixed_text (negsuc units) = 45 ∷ units_text (units + 1)

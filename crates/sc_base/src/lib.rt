@@ -16,7 +16,7 @@ mod sink;
 mod sure;
 mod text;
 
-pub use decimal::put_u128;
+pub use decimal::{put_u128, read_fixed, read_u64, read_units, write_fixed};
 pub use list::List;
 pub use mem_shelf::{Held, MemShelf};
 pub use mem_sink::MemSink;

@@ -1,4 +1,4 @@
-use Rattle.std.proofs.Common.{◌≡◌, take, drop, length, arith}
+use Rattle.std.proofs.Common.{drop, arith}
 use Rattle.std.proofs.lemmas.Grind.{common_steps}
 use Rattle.sc_base.proofs.ReadLemmas.{read_splits}
 use Rattle.sc_base.proofs.text.copy_front.Goals as goal

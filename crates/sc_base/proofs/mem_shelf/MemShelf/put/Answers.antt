@@ -1,4 +1,4 @@
-use Rattle.std.proofs.Common.{◌≡◌, ◌≤◌, None, length, arith}
+use Rattle.std.proofs.Common.{◌≤◌, None, length, arith}
 use Rattle.sc_base.proofs.TextLemmas.{text_under-append, text_at_past}
 use Rattle.sc_base.proofs.mem_shelf.MemShelf.put.Goals as goal
 
