@@ -1,5 +1,6 @@
 -- Words of the code that cuts a source.
-use Rattle.std.specs.Prelude.{ℕ, ◌≡◌, ◌<◌, ◌≤◌, ◌+◌, Bool, List, [], ◌∷◌, length, Option, option_map}
+use Rattle.std.specs.Prelude.{ℕ, ◌≡◌, ◌<◌, ◌≤◌, ◌+◌, Bool, List, [], ◌∷◌, ◌++◌, length, take, slice_index, Option}
+use Rattle.std.specs.Option.{option_map}
 use Rattle.std.specs.BTreeMap.{BTreeMap, get_by}
 use Rattle.std.specs.Cmp.Lexicographic.{slice_cmp}
 use Rattle.std.specs.Ordering.{nat_cmp}
@@ -11,10 +12,12 @@ use Rattle.sc_syntax.specs.declared.piece.Kind.{Kind}
 use Rattle.sc_syntax.specs.declared.piece.Kind.TheVariants.{Space, LineComment, BlockComment, OpenComment, Directive, Word, Number, Sign}
 use Rattle.sc_syntax.specs.declared.reading.Reading.{Reading}
 use Rattle.sc_syntax.specs.declared.reading.Reading.TheVariants.{Passed, Read, Unread}
+use Rattle.sc_syntax.specs.declared.token.Mark.{Mark}
 use Rattle.sc_syntax.specs.declared.token.Token.{Token}
 use Rattle.sc_syntax.specs.declared.token.TokenSort.{TokenSort}
 use Rattle.sc_syntax.specs.Bytes.{is_word}
 use Rattle.sc_syntax.specs.Directives.{Names}
+use Rattle.sc_syntax.specs.Marks.{mark_text}
 use Rattle.sc_syntax.specs.Pieces.{is_number, IsReadAs}
 use Rattle.sc_syntax.specs.Spaces.{is_white, is_blank, is_inline}
 
@@ -24,6 +27,18 @@ in_class class.Blank = is_blank
 in_class class.Line = is_inline
 in_class class.Word = is_word
 in_class class.Number = is_number
+
+-- the first two bytes
+abbrev pub BeginsWith : List ℕ → ℕ → ℕ → Type 0
+BeginsWith text first second = (1 < length text) × (slice_index text 0 ≡ first) × (slice_index text 1 ≡ second)
+
+-- no mark stands at the front of the text
+abbrev pub HasNoMark : List ℕ → Type 0
+HasNoMark text = (m : Mark) (rest : List ℕ) → mark_text m ++ rest ≡ text → ⊥
+
+-- the longest mark at the front of the text has n bytes
+abbrev pub IsLongestMark : List ℕ → ℕ → Type 0
+IsLongestMark text n = ((m : Mark) × (mark_text m ≡ take n text)) × ((m : Mark) (rest : List ℕ) → mark_text m ++ rest ≡ text → length (mark_text m) ≤ n)
 
 -- white space and comments
 abbrev pub IsGap : Kind → Type 0

@@ -1,5 +1,5 @@
 //! Classes of bytes.
-ghost use Rattle.std.specs.Prelude.{◌≡◌};
+ghost use Rattle.std.specs.Prelude.{◌≡◌, ◌≤◌, length, drop};
 ghost use Rattle.sc_syntax.specs.Bytes.{is_digit, is_letter, is_word};
 ghost use Rattle.sc_syntax.specs.Pieces.{begins_number, is_number};
 ghost use Rattle.sc_syntax.specs.Spaces.{begins_line, is_blank, is_inline, is_white};
@@ -66,4 +66,12 @@ pub(crate) fn begins_number(text: &[u8]) -> bool
         [b'.', second, ..] => is_digit(*second),
         _ => false,
     }
+}
+
+/// The bytes from a place on.
+pub(crate) fn rest_from(text: &[u8], at: usize) -> &[u8]
+    requires { at ≤ length text.now }
+    ensures { result.now ≡ drop at text.now }
+{
+    &text[at..]
 }

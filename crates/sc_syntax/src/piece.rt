@@ -1,12 +1,12 @@
 //! The longest piece at the front of a text.
-ghost use Rattle.std.specs.Prelude.{◌≡◌, ◌≢◌, ◌≤◌, ◌<◌, ◌+◌, ℕ, length, take, drop, slice_index, true, ◌∷◌, [], MatchOption, ⊤};
+ghost use Rattle.std.specs.Prelude.{◌≡◌, ◌≢◌, ◌≤◌, ◌<◌, ◌+◌, ℕ, length, take, drop, slice_index, true, ◌∷◌, [], MatchOption, IsTrue, Bool, ◌↔◌, ⊤};
 ghost use Rattle.std.specs.List.{prefix_len};
-ghost use Rattle.sc_syntax.specs.Cuts.{in_class};
+ghost use Rattle.sc_syntax.specs.Cuts.{in_class, BeginsWith, HasNoMark, IsLongestMark};
 ghost use Rattle.sc_syntax.specs.Marks.{mark_text};
 ghost use Rattle.sc_syntax.specs.Pieces.{IsNext, IsStuck, HasNoEnd};
 ghost use Rattle.sc_syntax.specs.declared.token.Mark.{Mark as Marks};
 
-use crate::bytes::{begins_number, is_blank, is_inline, is_letter, is_number, is_white, is_word};
+use crate::bytes::{begins_number, is_blank, is_inline, is_letter, is_number, is_white, is_word, rest_from};
 use crate::token::Mark;
 
 /// What a piece of a source is.
@@ -74,7 +74,7 @@ pub(crate) fn run_end(class: Class, text: &[u8], from: usize) -> usize
 }
 
 fn begins_with(text: &[u8], first: u8, second: u8) -> bool
-    ensures { result ≡ true → (1 < length text.now) × (slice_index text.now 0 ≡ first) × (slice_index text.now 1 ≡ second) }
+    ensures { IsTrue result ↔ BeginsWith text.now first second }
 {
     text.len() > 1 && text[0] == first && text[1] == second
 }
@@ -150,5 +150,85 @@ pub(crate) fn mark_of_two(first: u8, second: u8) -> Option<Mark>
         (b'<', b'<') => Some(Mark::ShiftLeft),
         (b'>', b'>') => Some(Mark::ShiftRight),
         _ => None,
+    }
+}
+
+/// The length of the longest mark at the front of a text.
+fn mark_len(text: &[u8]) -> Option<usize>
+    requires { 0 < length text.now }
+    ensures longest { MatchOption result (HasNoMark text.now) (IsLongestMark text.now) }
+    ensures size { MatchOption result ⊤ (λ n. (0 < n) × (n ≤ length text.now)) }
+{
+    if text.len() > 1 && mark_of_two(text[0], text[1]).is_some() {
+        return Some(2);
+    }
+    match mark_of(text[0]) {
+        None => None,
+        Some(_) => Some(1),
+    }
+}
+
+/// The comment that begins with `/*`.
+fn block_comment(text: &[u8]) -> Piece
+    requires { BeginsWith text.now 47 42 }
+    ensures next { (fresh : Bool) → IsNext fresh result.kind (take result.len text.now) (drop result.len text.now) }
+    ensures size { (0 < result.len) × (result.len ≤ length text.now) }
+{
+    match end_at(rest_from(text, 2)) {
+        None => Piece {
+            kind: Kind::OpenComment,
+            len: text.len(),
+        },
+        Some(at) => Piece {
+            kind: Kind::BlockComment,
+            len: at + 4,
+        },
+    }
+}
+
+fn run(kind: Kind, class: Class, text: &[u8], from: usize) -> Piece
+    requires { from ≤ length text.now }
+    ensures kind { result.kind ≡ kind }
+    ensures len { result.len ≡ from + prefix_len (in_class class) (drop from text.now) }
+    ensures within { result.len ≤ length text.now }
+{
+    Piece {
+        kind,
+        len: run_end(class, text, from),
+    }
+}
+
+/// The longest piece at the front of a text, or nothing where none stands there. Only spaces and tabs stand
+/// before it on its line where `fresh` is true.
+pub(crate) fn next_piece(fresh: bool, text: &[u8]) -> Option<Piece>
+    requires { 0 < length text.now }
+    ensures next { MatchOption result (IsStuck fresh text.now) (λ p. IsNext fresh p.kind (take p.len text.now) (drop p.len text.now)) }
+    ensures size { MatchOption result ⊤ (λ p. (0 < p.len) × (p.len ≤ length text.now)) }
+{
+    let first = text[0];
+    if is_white(first) {
+        return Some(run(Kind::Space, Class::White, text, 1));
+    }
+    if is_letter(first) {
+        return Some(run(Kind::Word, Class::Word, text, 1));
+    }
+    if begins_number(text) {
+        return Some(run(Kind::Number, Class::Number, text, 1));
+    }
+    if fresh && first == b'#' {
+        return Some(run(Kind::Directive, Class::Line, text, 1));
+    }
+    if begins_with(text, b'/', b'/') {
+        return Some(run(Kind::LineComment, Class::Line, text, 2));
+    }
+    if begins_with(text, b'/', b'*') {
+        return Some(block_comment(text));
+    }
+    match mark_len(text) {
+        None => None,
+        Some(len) => Some(Piece {
+            kind: Kind::Sign,
+            len,
+        }),
     }
 }
