@@ -1,11 +1,14 @@
 -- Words of the code that cuts a source.
-use Rattle.std.specs.Prelude.{ℕ, ◌≡◌, ◌<◌, ◌≤◌, ◌+◌, Bool, List, [], ◌∷◌, ◌++◌, length, take, slice_index, Option}
+use Rattle.std.specs.Prelude.{ℕ, ◌≡◌, ◌<◌, ◌≤◌, ◌+◌, Bool, List, [], ◌∷◌, ◌++◌, length, take, drop, slice_index, slice_range, Option, Some, ◌⊎◌, All}
 use Rattle.std.specs.Option.{option_map}
 use Rattle.std.specs.BTreeMap.{BTreeMap, get_by}
 use Rattle.std.specs.Cmp.Lexicographic.{slice_cmp}
 use Rattle.std.specs.Ordering.{nat_cmp}
 use Rattle.sc_base.specs.declared.Place.{Place}
 use Rattle.sc_syntax.specs.declared.define.Defined.{Defined}
+use Rattle.sc_syntax.specs.declared.fault.LexFault.{LexFault}
+use Rattle.sc_syntax.specs.declared.fault.LexFault.TheVariants as faults
+use Rattle.sc_syntax.specs.declared.lexing.Found.{Found}
 use Rattle.sc_syntax.specs.declared.piece.Class.{Class}
 use Rattle.sc_syntax.specs.declared.piece.Class.TheVariants as class
 use Rattle.sc_syntax.specs.declared.piece.Kind.{Kind}
@@ -17,9 +20,11 @@ use Rattle.sc_syntax.specs.declared.token.Token.{Token}
 use Rattle.sc_syntax.specs.declared.token.TokenSort.{TokenSort}
 use Rattle.sc_syntax.specs.Bytes.{is_word}
 use Rattle.sc_syntax.specs.Directives.{Names}
+use Rattle.sc_syntax.specs.Lexing.{Gives, fault_of, place_after}
 use Rattle.sc_syntax.specs.Marks.{mark_text}
-use Rattle.sc_syntax.specs.Pieces.{is_number, IsReadAs}
-use Rattle.sc_syntax.specs.Spaces.{is_white, is_blank, is_inline}
+use Rattle.sc_syntax.specs.Pieces.{is_number, IsPiece, IsReadAs}
+use Rattle.sc_syntax.specs.Spaces.{is_white, is_blank, is_inline, begins_line}
+use Rattle.sc_syntax.specs.TokenLists.{most_tokens, IsRead}
 
 abbrev pub in_class : Class → ℕ → Bool
 in_class class.White = is_white
@@ -59,6 +64,42 @@ tokens_of Passed place start end = []
 tokens_of (Read sort) place start end = record { sort = sort; place = place; start = start; end = end } ∷ []
 tokens_of Unread place start end = []
 
+-- the reading can be added to the tokens
+abbrev pub IsAddable : Reading → List Token → Type 0
+IsAddable Passed tokens = Unit {0}
+IsAddable (Read sort) tokens = length tokens < most_tokens
+IsAddable Unread tokens = ⊥
+
+-- why a reading at a place is not added to the tokens
+abbrev pub IsRefused : Reading → LexFault → Place → List Token → LexFault → Type 0
+IsRefused Passed unread place tokens fault = ⊥
+IsRefused (Read sort) unread place tokens fault = (most_tokens ≤ length tokens) × (fault ≡ faults.TooManyTokens place)
+IsRefused Unread unread place tokens fault = fault ≡ unread
+
 -- the names that the table holds
 abbrev pub names_of : Defined → Names
-names_of defined text = option_map (λ value. value.items) (get_by (λ k. slice_cmp nat_cmp text k.now) defined.values)
+names_of defined text = option_map (λ value. drop 1 value) (get_by (λ k. slice_cmp nat_cmp text k.now) defined.values)
+
+-- the tokens of each value were read from the source
+abbrev pub AreValues : List ℕ → Names → Type 0
+AreValues source names = (text : List ℕ) (value : List Token) → names text ≡ Some value → All (IsRead source) value
+
+-- the piece stands in the source: it is one behind the bytes before it, and its place is known
+pub record Stands (source : List ℕ) (found : Found) : Type 0 where
+  pub ordered : found.start < found.end
+  pub within : found.end ≤ length source
+  pub is_piece : IsPiece (begins_line (take found.start source)) found.kind (slice_range source found.start found.end)
+  pub place_is : found.place ≡ place_after (take found.start source)
+
+-- what a piece of the source does to the names and the tokens
+pub record Takes (source : List ℕ) (kind : Kind) (start end : ℕ) (names : Names) (tokens : List Token) (after : Names) (more : List Token) : Type 0 where
+  pub new : List Token
+  pub gives : Gives source names kind (take start source) (slice_range source start end) new after
+  pub grows : more ≡ tokens ++ new
+  pub few : length more ≤ most_tokens
+
+-- the piece gives nothing, or more tokens than a source may have
+abbrev pub Refuses : List ℕ → Kind → Place → ℕ → ℕ → Names → List Token → LexFault → Type 0
+Refuses source kind place start end names tokens fault =
+    ((fault ≡ fault_of kind place) × ((new : List Token) (after : Names) → Gives source names kind (take start source) (slice_range source start end) new after → ⊥))
+    ⊎ ((new : List Token) × ((after : Names) × (Gives source names kind (take start source) (slice_range source start end) new after × (most_tokens < length (tokens ++ new)) × (fault ≡ faults.TooManyTokens place))))

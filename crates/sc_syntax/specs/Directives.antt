@@ -96,6 +96,24 @@ IsFree source names own token = is_name token.sort ≡ true → (names (text_of 
 abbrev pub IsValue : List ℕ → Names → List ℕ → List Token → Type 0
 IsValue source names own value = IsNumberValue value ⊎ (IsEnclosed value × All (IsFree source names own) value)
 
+-- a name that is not defined yet, and its value
+abbrev pub IsDefinition : List ℕ → Names → List Token → Type 0
+IsDefinition source names [] = ⊥
+IsDefinition source names (name ∷ value) =
+    (is_name name.sort ≡ true) × (names (text_of source name) ≡ None) × IsValue source names (text_of source name) value
+
+-- the defined names behind a definition
+abbrev pub names_behind : List ℕ → Names → List Token → Names
+names_behind source names [] = names
+names_behind source names (name ∷ value) = with_name names (text_of source name) value
+
+-- bytes that are left of a directive hold a definition, and these are the names behind it
+pub record Defines (source : List ℕ) (names : Names) (place : Place) (before bytes : List ℕ) (after : Names) : Type 0 where
+  pub tokens : List Token
+  pub scanned : Scans place before [] bytes tokens
+  pub is_definition : IsDefinition source names tokens
+  pub defined : after ≡ names_behind source names tokens
+
 -- the word of a directive stands behind its `#` and any spaces and tabs
 abbrev pub word_start : List ℕ → ℕ
 word_start piece = 1 + prefix_len is_blank (drop 1 piece)
@@ -106,20 +124,11 @@ word_end piece = word_start piece + prefix_len is_word (drop (word_start piece) 
 abbrev pub directive_word : List ℕ → List ℕ
 directive_word piece = slice_range piece (word_start piece) (word_end piece)
 
--- the directive defines a new name: behind its word stand a name that is not defined yet, and its value
-pub record Defines (source : List ℕ) (names : Names) (place : Place) (before piece : List ℕ) (after : Names) : Type 0 where
-  pub name : Token
-  pub value : List Token
-  pub scanned : Scans place (before ++ take (word_end piece) piece) [] (drop (word_end piece) piece) (name ∷ value)
-  pub named : is_name name.sort ≡ true
-  pub is_new : names (text_of source name) ≡ None
-  pub is_value : IsValue source names (text_of source name) value
-  pub defined : after ≡ with_name names (text_of source name) value
-
 -- what a directive does to the defined names: an include nothing, and a define adds one
 abbrev pub Directs : List ℕ → Names → Place → List ℕ → List ℕ → Names → Type 0
 Directs source names place before piece after =
-    ((directive_word piece ≡ codes "include") × (after ≡ names)) ⊎ ((directive_word piece ≡ codes "define") × Defines source names place before piece after)
+    ((directive_word piece ≡ codes "include") × (after ≡ names))
+    ⊎ ((directive_word piece ≡ codes "define") × Defines source names place (before ++ take (word_end piece) piece) (drop (word_end piece) piece) after)
 
 -- a token at the place of a use
 abbrev pub placed : Place → Token → Token

@@ -1,6 +1,7 @@
 pub mod Bytes
 pub mod Cuts
 pub mod Directives
+pub mod Lexing
 pub mod Marks
 pub mod Names
 pub mod Pieces

@@ -1,5 +1,5 @@
 //! Classes of bytes.
-ghost use Rattle.std.specs.Prelude.{◌≡◌, ◌≤◌, length, drop};
+ghost use Rattle.std.specs.Prelude.{◌≡◌, ◌≤◌, length, drop, slice_range};
 ghost use Rattle.sc_syntax.specs.Bytes.{is_digit, is_letter, is_word};
 ghost use Rattle.sc_syntax.specs.Pieces.{begins_number, is_number};
 ghost use Rattle.sc_syntax.specs.Spaces.{begins_line, is_blank, is_inline, is_white};
@@ -74,4 +74,13 @@ pub(crate) fn rest_from(text: &[u8], at: usize) -> &[u8]
     ensures { result.now ≡ drop at text.now }
 {
     &text[at..]
+}
+
+/// The bytes from a place to another.
+pub(crate) fn part(text: &[u8], from: usize, to: usize) -> &[u8]
+    requires ordered { from ≤ to }
+    requires within { to ≤ length text.now }
+    ensures { result.now ≡ slice_range text.now from to }
+{
+    &text[from..to]
 }
