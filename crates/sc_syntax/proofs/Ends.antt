@@ -72,7 +72,7 @@ pub no_end_step : (text : List ℕ) (i : ℕ) → i + 1 < length text → HasNoE
 no_end_step text i l h not =
     let one : take (i + 1) text ≡ take i text ++ get_or text i 0 ∷ [] = take_more text i 0 (omega arith) in
     let two : take (i + 1 + 1) text ≡ take i text ++ get_or text i 0 ∷ get_or text (i + 1) 0 ∷ [] =
-        take_more text (i + 1) 0 l ∙ ap (λ t. t ++ get_or text (i + 1) 0 ∷ []) one ∙ append_assoc (take i text) (get_or text i 0 ∷ []) (get_or text (i + 1) 0 ∷ []) in
+    take_more text (i + 1) 0 l ∙ ap (λ t. t ++ get_or text (i + 1) 0 ∷ []) one ∙ append_assoc (take i text) (get_or text i 0 ∷ []) (get_or text (i + 1) 0 ∷ []) in
     subst HasNoEnd (sym two) (no_end_more (take i text) (get_or text i 0) (get_or text (i + 1) 0) (subst HasNoEnd one h) not)
 
 pub no_end_all : (text : List ℕ) (i : ℕ) → length text ≤ i + 1 → HasNoEnd (take (i + 1) text) → HasNoEnd text

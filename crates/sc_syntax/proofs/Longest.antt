@@ -230,7 +230,7 @@ block_next fresh z n b l first second h =
     let rest = drop (n + 1 + 1) inner in
     let upto : take (n + 1) inner ≡ t ++ 42 ∷ [] = take_more inner n 0 (omega arith) ∙ ap (λ x. t ++ x ∷ []) first in
     let whole : (47 ∷ 42 ∷ (t ++ 42 ∷ 47 ∷ [])) ++ rest ≡ z =
-        ap (λ x. 47 ∷ 42 ∷ x) (append_assoc t (42 ∷ 47 ∷ []) rest ∙ split_at inner n l first second) ∙ sym (two_more z 47 42 b) in
+    ap (λ x. 47 ∷ 42 ∷ x) (append_assoc t (42 ∷ 47 ∷ []) rest ∙ split_at inner n l first second) ∙ sym (two_more z 47 42 b) in
     let front = length-take-le n inner (omega arith) in
     let size : length (47 ∷ 42 ∷ (t ++ 42 ∷ 47 ∷ [])) ≡ n + 4 = omega (arith, length-append t (42 ∷ 47 ∷ [])) in
     placed_next fresh BlockComment (47 ∷ 42 ∷ (t ++ 42 ∷ 47 ∷ [])) rest z (n + 4) whole size (block_here fresh t rest (subst HasNoEnd upto h))

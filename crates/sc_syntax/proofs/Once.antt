@@ -43,14 +43,14 @@ pub record SameGift (new others : List Token) (a b : Names) : Type 0 where
 
 one_gift : (source : List ℕ) (names : Names) (kind : Kind) (before piece : List ℕ) (new others : List Token) (a b : Names)
     → Gives source names kind before piece new a → Gives source names kind before piece others b → SameGift new others a b
-one_gift source names Directive before piece new others a b g h = record { tokens = g.0 ∙ sym h.0; names = one_direction source names _ before piece a b g.1 h.1 }
-one_gift source names Word before piece new others a b g h = record { tokens = word_case (names piece) _ before piece new others g.0 h.0; names = g.1 ∙ sym h.1 }
-one_gift source names Space before piece new others a b g h = record { tokens = one_scan Space _ before piece new others g.0 h.0; names = g.1 ∙ sym h.1 }
-one_gift source names LineComment before piece new others a b g h = record { tokens = one_scan LineComment _ before piece new others g.0 h.0; names = g.1 ∙ sym h.1 }
-one_gift source names BlockComment before piece new others a b g h = record { tokens = one_scan BlockComment _ before piece new others g.0 h.0; names = g.1 ∙ sym h.1 }
-one_gift source names OpenComment before piece new others a b g h = record { tokens = one_scan OpenComment _ before piece new others g.0 h.0; names = g.1 ∙ sym h.1 }
-one_gift source names Number before piece new others a b g h = record { tokens = one_scan Number _ before piece new others g.0 h.0; names = g.1 ∙ sym h.1 }
-one_gift source names Sign before piece new others a b g h = record { tokens = one_scan Sign _ before piece new others g.0 h.0; names = g.1 ∙ sym h.1 }
+one_gift source names Directive before piece new others a b g h = record { tokens = g.0 ∙ sym h.0; names = one_direction source names (place_after before) before piece a b g.1 h.1 }
+one_gift source names Word before piece new others a b g h = record { tokens = word_case (names piece) (place_after before) before piece new others g.0 h.0; names = g.1 ∙ sym h.1 }
+one_gift source names Space before piece new others a b g h = record { tokens = one_scan Space (place_after before) before piece new others g.0 h.0; names = g.1 ∙ sym h.1 }
+one_gift source names LineComment before piece new others a b g h = record { tokens = one_scan LineComment (place_after before) before piece new others g.0 h.0; names = g.1 ∙ sym h.1 }
+one_gift source names BlockComment before piece new others a b g h = record { tokens = one_scan BlockComment (place_after before) before piece new others g.0 h.0; names = g.1 ∙ sym h.1 }
+one_gift source names OpenComment before piece new others a b g h = record { tokens = one_scan OpenComment (place_after before) before piece new others g.0 h.0; names = g.1 ∙ sym h.1 }
+one_gift source names Number before piece new others a b g h = record { tokens = one_scan Number (place_after before) before piece new others g.0 h.0; names = g.1 ∙ sym h.1 }
+one_gift source names Sign before piece new others a b g h = record { tokens = one_scan Sign (place_after before) before piece new others g.0 h.0; names = g.1 ∙ sym h.1 }
 
 pub once : (source before : List ℕ) (names : Names) (ts : List Token) (bytes : List ℕ) (a b : Result (List Token) LexFault) → Reads source before names ts bytes a → Reads source before names ts bytes b → a ≡ b
 once source _ _ _ _ _ _ (at_end _ _ _) (at_end _ _ _) = refl

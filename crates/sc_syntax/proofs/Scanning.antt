@@ -99,4 +99,4 @@ pub scan_fails : (source rest piece : List ℕ) (place : Place) (from to at n : 
     → (all : List Token) → Scans place (take from source) [] (slice_range source from to) all → ⊥
 scan_fails source rest piece place from to at n kind tokens s c r all h =
     scan_unread place _ _ _ all kind piece (drop n rest) (s.back all h) (joined source rest piece at to n false kind c) (is_next source rest piece at to n false kind c)
-        (scans_none kind (take at source) piece place r)
+    (scans_none kind (take at source) piece place r)

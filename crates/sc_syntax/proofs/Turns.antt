@@ -1,5 +1,5 @@
 -- What a turn of the lexer's loop keeps.
-use Rattle.std.proofs.Common.{ℕ, ◌≡◌, refl, sym, ap, ◌∙◌, subst, ◌+◌, ◌-◌, ◌<◌, ◌≤◌, List, [], ◌∷◌, ◌++◌, length, take, drop, slice_range, reverse, count_by, Option, Ok, Err, ◌==◌, inl, inr, ◌⊎◌, arith}
+use Rattle.std.proofs.Common.{Bool, ℕ, ◌≡◌, refl, sym, ap, ◌∙◌, subst, ◌+◌, ◌-◌, ◌<◌, ◌≤◌, List, [], ◌∷◌, ◌++◌, length, take, drop, slice_range, reverse, count_by, Option, Ok, Err, ◌==◌, inl, inr, ◌⊎◌, arith}
 use Rattle.std.proofs.lemmas.List.{length-reverse, drop_all}
 use Rattle.std.proofs.lemmas.List.Folds.{length-prefix_len}
 use Rattle.std.proofs.lemmas.List.Sums.{count_by-le-length, prefix_len-le-length}
@@ -9,13 +9,13 @@ use Rattle.sc_syntax.specs.declared.fault.LexFault.{LexFault}
 use Rattle.sc_syntax.specs.declared.fault.LexFault.TheVariants as faults
 use Rattle.sc_syntax.specs.declared.piece.Kind.{Kind}
 use Rattle.sc_syntax.specs.declared.token.Token.{Token}
-use Rattle.sc_syntax.specs.Cuts.{Takes, Refuses}
+use Rattle.sc_syntax.specs.Cuts.{Stands, Takes, Refuses}
 use Rattle.sc_syntax.specs.Directives.{Names, no_names}
 use Rattle.sc_syntax.specs.Lexing.{place_after, fault_of, Gives, Reads, at_end, after_piece, at_too_many, at_fault, at_stuck}
-use Rattle.sc_syntax.specs.Pieces.{IsNext, IsStuck}
+use Rattle.sc_syntax.specs.Pieces.{IsPiece, IsNext, IsStuck}
 use Rattle.sc_syntax.specs.Spaces.{begins_line, is_inline}
 use Rattle.sc_syntax.specs.TokenLists.{most_tokens}
-use Rattle.sc_syntax.proofs.CutLemmas.{CutsIn, joined, is_next, passed, left, slice_is, part_all}
+use Rattle.sc_syntax.proofs.CutLemmas.{CutsIn, cut_of, ends_within, joined, is_next, passed, left, slice_is, part_all}
 
 -- what the rest gives, the whole gives
 pub record GoesOn (source : List ℕ) (names : Names) (tokens : List Token) (at : ℕ) : Type 0 where
@@ -61,7 +61,7 @@ turn source rest piece names after tokens more at n kind g c t = record {
       let later = subst P (sym (passed source rest piece at (length source) n fresh kind c)) (subst Q (sym behind) h) in
       let gives = subst S (slice_is source rest piece at (length source) n fresh kind c) t.gives in
       g.goes_on outcome (after_piece _ _ _ _ outcome kind piece (drop n rest) t.new after (whole source rest piece at n kind c) (is_next source rest piece at (length source) n fresh kind c)
-          gives (omega (arith, t.few, ap length t.grows)) (subst R t.grows later));
+      gives (omega (arith, t.few, ap length t.grows)) (subst R t.grows later));
 }
 
 -- a piece that is not taken
@@ -73,7 +73,7 @@ refused source rest piece names tokens at n kind place fault g c e (inl h) =
     let P : LexFault → Type 0 = λ x. Reads source [] no_names [] source (Err x) in
     let S : (new : List Token) (after : Names) → List ℕ → Type 0 = λ new after x. Gives source names kind (take at source) x new after in
     let none : (new : List Token) (after : Names) → Gives source names kind (take at source) piece new after → ⊥ =
-        λ new after k. h.1 new after (subst (S new after) (sym (slice_is source rest piece at (length source) n fresh kind c)) k) in
+    λ new after k. h.1 new after (subst (S new after) (sym (slice_is source rest piece at (length source) n fresh kind c)) k) in
     subst P (ap (fault_of kind) (sym e) ∙ sym h.0) (g.goes_on _ (at_fault _ _ _ _ kind piece (drop n rest) (whole source rest piece at n kind c) (is_next source rest piece at (length source) n fresh kind c) none))
 refused source rest piece names tokens at n kind place fault g c e (inr h) =
     let fresh = begins_line (take at source) in
@@ -83,7 +83,7 @@ refused source rest piece names tokens at n kind place fault g c e (inr h) =
     let S : List ℕ → Type 0 = λ x. Gives source names kind (take at source) x new after in
     let gives = subst S (slice_is source rest piece at (length source) n fresh kind c) h.1.1.0 in
     subst P (ap faults.TooManyTokens (sym e) ∙ sym h.1.1.2) (g.goes_on _ (at_too_many _ _ _ _ kind piece (drop n rest) new after (whole source rest piece at n kind c)
-        (is_next source rest piece at (length source) n fresh kind c) gives h.1.1.1))
+    (is_next source rest piece at (length source) n fresh kind c) gives h.1.1.1))
 
 -- no piece stands here
 pub stuck : (source rest : List ℕ) (names : Names) (tokens : List Token) (at : ℕ) (place : Place) → GoesOn source names tokens at → rest ≡ drop at source → 0 < length rest
@@ -92,3 +92,41 @@ stuck source rest names tokens at place g e l p s =
     let P : List ℕ → Type 0 = λ x. Reads source (take at source) names tokens x (Err (faults.BadByte (place_after (take at source)))) in
     let Q : Place → Type 0 = λ x. Reads source [] no_names [] source (Err (faults.BadByte x)) in
     subst Q (sym p) (g.goes_on _ (subst P e (at_stuck _ _ _ rest l s)))
+
+-- ---- the code's cut
+
+front_part : (source : List ℕ) (at : ℕ) → slice_range source 0 at ≡ take at source
+front_part source at = let same : at - 0 ≡ at = omega arith in ap (λ n. take n source) same
+
+fresh_is : (source front : List ℕ) (at : ℕ) (fresh : Bool) → front ≡ slice_range source 0 at → fresh ≡ begins_line front → fresh ≡ begins_line (take at source)
+fresh_is source front at fresh e f = f ∙ ap begins_line (e ∙ front_part source at)
+
+pub cut_here : (source front rest : List ℕ) (at n : ℕ) (fresh : Bool) (kind : Kind) → at ≤ length source → front ≡ slice_range source 0 at → fresh ≡ begins_line front → rest ≡ drop at source
+    → n ≤ length rest → IsNext fresh kind (take n rest) (drop n rest) → CutsIn source rest (take n rest) at (length source) n (begins_line (take at source)) kind
+cut_here source front rest at n fresh kind l e f r w h =
+    let P : Bool → Type 0 = λ b. IsNext b kind (take n rest) (drop n rest) in
+    cut_of l (omega arith) (r ∙ sym (part_all source at)) w (subst P (fresh_is source front at fresh e f) h)
+
+pub stuck_here : (source front rest : List ℕ) (at : ℕ) (fresh : Bool) → front ≡ slice_range source 0 at → fresh ≡ begins_line front → IsStuck fresh rest → IsStuck (begins_line (take at source)) rest
+stuck_here source front rest at fresh e f h =
+    let P : Bool → Type 0 = λ b. IsStuck b rest in
+    subst P (fresh_is source front at fresh e f) h
+
+pub found_stands : (source rest : List ℕ) (at n : ℕ) (kind : Kind) (place : Place) → CutsIn source rest (take n rest) at (length source) n (begins_line (take at source)) kind → 0 < n
+    → place ≡ place_after (take at source) → Stands source (record { kind = kind; start = at; end = at + n; place = place })
+found_stands source rest at n kind place c l e =
+    let fresh = begins_line (take at source) in
+    let P : List ℕ → Type 0 = λ x. IsPiece fresh kind x in
+    record {
+      ordered = omega arith;
+      within = ends_within source rest (take n rest) at (length source) n fresh kind c;
+      is_piece = subst P (sym (slice_is source rest (take n rest) at (length source) n fresh kind c)) (is_next source rest (take n rest) at (length source) n fresh kind c).is_piece;
+      place_is = e;
+    }
+
+-- the place behind a piece
+pub place_moves : (source rest : List ℕ) (at n : ℕ) (kind : Kind) → CutsIn source rest (take n rest) at (length source) n (begins_line (take at source)) kind
+    → take at source ++ slice_range source at (at + n) ≡ take (at + n) source
+place_moves source rest at n kind c =
+    let fresh = begins_line (take at source) in
+    ap (λ x. take at source ++ x) (slice_is source rest (take n rest) at (length source) n fresh kind c) ∙ passed source rest (take n rest) at (length source) n fresh kind c

@@ -27,7 +27,14 @@ fn add_token(tokens: &mut Tokens, token: Token) -> Result<(), LexFault>
 }
 
 /// Adds the token of a reading, if it is one. What can't be read is the fault that is handed in.
-pub(crate) fn add_reading(tokens: &mut Tokens, reading: Reading, unread: LexFault, place: Place, start: usize, end: usize) -> Result<(), LexFault>
+pub(crate) fn add_reading(
+    tokens: &mut Tokens,
+    reading: Reading,
+    unread: LexFault,
+    place: Place,
+    start: usize,
+    end: usize,
+) -> Result<(), LexFault>
     requires ordered { start ≤ end }
     requires end { end < 2 ^ 32 }
     ensures addable { OnOk result (IsAddable reading tokens.old) }
@@ -63,7 +70,13 @@ pub(crate) fn add_value(tokens: &mut Tokens, value: &[Token], place: Place) -> R
 }
 
 /// Adds the token of a reading to those of a directive, if it is one. It answers whether the piece could be read.
-pub(crate) fn push_reading(tokens: &mut Tokens, reading: Reading, place: Place, start: usize, end: usize) -> Result<bool, Memory>
+pub(crate) fn push_reading(
+    tokens: &mut Tokens,
+    reading: Reading,
+    place: Place,
+    start: usize,
+    end: usize,
+) -> Result<bool, Memory>
     requires ordered { start ≤ end }
     requires end { end < 2 ^ 32 }
     ensures unread { IfOk result (λ is_read. is_read ≡ false → reading ≡ Reading.Unread) }

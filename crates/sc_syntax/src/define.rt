@@ -176,14 +176,22 @@ fn is_definition(names: &Defined, source: &[u8], tokens: &[Token]) -> bool
         [] => false,
         [name, value @ ..] => {
             let text = text_at(source, name);
-            is_name(name.sort) && names.value(text).is_none() && is_value(names, source, text, value)
+            is_name(name.sort)
+                && names.value(text).is_none()
+                && is_value(names, source, text, value)
         }
     }
 }
 
 /// The tokens of a part of a directive's line, or nothing where it holds something else. Each token has the place
 /// of the directive.
-fn scan(alloc: Global, source: &[u8], from: usize, to: usize, place: Place) -> Result<Option<Tokens>, Memory>
+fn scan(
+    alloc: Global,
+    source: &[u8],
+    from: usize,
+    to: usize,
+    place: Place,
+) -> Result<Option<Tokens>, Memory>
     requires ordered { from ≤ to }
     requires within { to ≤ length source.now }
     requires small { length source.now < 2 ^ 32 }
@@ -209,7 +217,14 @@ fn scan(alloc: Global, source: &[u8], from: usize, to: usize, place: Place) -> R
 }
 
 /// Takes the definition that stands in a part of a directive's line.
-fn define<'a>(alloc: Global, names: &mut Defined<'a>, source: &'a [u8], from: usize, to: usize, place: Place) -> Result<(), LexFault>
+fn define<'a>(
+    alloc: Global,
+    names: &mut Defined<'a>,
+    source: &'a [u8],
+    from: usize,
+    to: usize,
+    place: Place,
+) -> Result<(), LexFault>
     requires ordered { from ≤ to }
     requires within { to ≤ length source.now }
     requires small { length source.now < 2 ^ 32 }
@@ -235,7 +250,14 @@ fn define<'a>(alloc: Global, names: &mut Defined<'a>, source: &'a [u8], from: us
 }
 
 /// Takes a directive, whose line stands from `start` to `end`.
-pub(crate) fn take_directive<'a>(alloc: Global, names: &mut Defined<'a>, source: &'a [u8], start: usize, end: usize, place: Place) -> Result<(), LexFault>
+pub(crate) fn take_directive<'a>(
+    alloc: Global,
+    names: &mut Defined<'a>,
+    source: &'a [u8],
+    start: usize,
+    end: usize,
+    place: Place,
+) -> Result<(), LexFault>
     requires ordered { start < end }
     requires within { end ≤ length source.now }
     requires small { length source.now < 2 ^ 32 }

@@ -73,7 +73,12 @@ fn fault_of(kind: Kind, place: Place) -> LexFault
 }
 
 /// Adds the tokens of a word: of a defined name those of its value.
-fn take_word(source: &[u8], found: Found, names: &Defined, tokens: &mut Tokens) -> Result<(), LexFault>
+fn take_word(
+    source: &[u8],
+    found: Found,
+    names: &Defined,
+    tokens: &mut Tokens,
+) -> Result<(), LexFault>
     requires stands { Stands source.now found }
     requires word { found.kind ≡ Kind.Word }
     requires small { length source.now ≤ 16_777_216 }
@@ -98,7 +103,13 @@ fn take_word(source: &[u8], found: Found, names: &Defined, tokens: &mut Tokens) 
 }
 
 /// Takes a piece: its tokens are added, or its directive is carried out.
-fn take_piece<'a>(alloc: Global, source: &'a [u8], found: Found, names: &mut Defined<'a>, tokens: &mut Tokens) -> Result<(), LexFault>
+fn take_piece<'a>(
+    alloc: Global,
+    source: &'a [u8],
+    found: Found,
+    names: &mut Defined<'a>,
+    tokens: &mut Tokens,
+) -> Result<(), LexFault>
     requires stands { Stands source.now found }
     requires small { length source.now ≤ 16_777_216 }
     requires read { AreRead source.now tokens.old }
@@ -164,5 +175,4 @@ pub fn lex(alloc: Global, source: &[u8]) -> Result<Tokens, LexFault>
 /// A source has one outcome at most.
 pub(crate) fn one_outcome()
     ensures { HasOneOutcome }
-{
-}
+{}

@@ -6,7 +6,9 @@ ghost use Rattle.sc_syntax.specs.Marks.{mark_text};
 ghost use Rattle.sc_syntax.specs.Pieces.{IsNext, IsStuck, HasNoEnd};
 ghost use Rattle.sc_syntax.specs.declared.token.Mark.{Mark as Marks};
 
-use crate::bytes::{begins_number, is_blank, is_inline, is_letter, is_number, is_white, is_word, rest_from};
+use crate::bytes::{
+    begins_number, is_blank, is_inline, is_letter, is_number, is_white, is_word, rest_from,
+};
 use crate::token::Mark;
 
 /// What a piece of a source is.

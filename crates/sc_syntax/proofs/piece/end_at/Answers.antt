@@ -8,5 +8,5 @@ loop-at-preserved c =
     let text = c.args.text.now in
     let i = c.loop-at.at in
     let not : get_or text i 0 ≡ 42 → get_or text (i + 1) 0 ≡ 47 → ⊥ = λ star slash.
-        elim c.else-text-at-eq42.branch [ else-text-at-eq42-via-then-text-at-eq42+else-text-at-eq47 w ↦ absurd (omega arith) | else-text-at-eq42-via-else-text-at-eq42 w ↦ absurd (omega arith) ] in
+    elim c.else-text-at-eq42.branch [ else-text-at-eq42-via-then-text-at-eq42+else-text-at-eq47 w ↦ absurd (omega arith) | else-text-at-eq42-via-else-text-at-eq42 w ↦ absurd (omega arith) ] in
     record { none = no_end_step text i c.loop-at-test.true c.loop-at.invariant.none not; within = omega arith }
