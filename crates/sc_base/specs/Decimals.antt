@@ -1,4 +1,5 @@
 -- Decimal literals, and the text of a fixed-point number, which counts units of 10^-12.
+-- The literals are those of C without exponents, suffixes and hexadecimal digits, read exactly.
 -- Whole numbers and digits are those of std: `decimal n`, `AllDigits`, `IsNumeral`, `digits_value`.
 use Rattle.std.specs.Prelude.{◌≡◌, ℕ, ◌+◌, ◌-◌, ◌/◌, ◌%◌, ◌^◌, ℤ, pos, negsuc, List, ◌∷◌, ◌++◌, length, take, replicate, decimal}
 use Rattle.std.specs.Str.Parse.{IsNumeral, digits_value}

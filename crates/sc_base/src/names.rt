@@ -12,9 +12,10 @@ pub struct Place {
 #[derive(Clone, Copy, Debug, PartialEq, Eq, Hash)]
 pub struct Fixed(pub i64);
 
-/// What a wire carries: a qubit (`Q`) or a classical bit (`C`).
-#[derive(Clone, Copy, Debug, PartialEq, Eq, Hash)]
+/// What a wire carries: a qubit (`Q`) or a classical bit (`C`). The default, a qubit, fills the unused places of short lists of wires.
+#[derive(Clone, Copy, Debug, Default, PartialEq, Eq, Hash)]
 pub enum Class {
+    #[default]
     Q,
     C,
 }

@@ -1,7 +1,12 @@
 -- The critical path, weights, and chains of two lists, as laws on chains.
-use Rattle.std.proofs.Common.{◌≡◌, ℕ, ◌+◌, ◌≤◌, List, [], ◌∷◌, ◌++◌, true, Option, Some, None, ◌⊎◌, inl, inr, refl, ap, subst, arith, ◌↔◌}
+use Rattle.std.proofs.Common.{◌≡◌, ℕ, ◌+◌, ◌≤◌, List, [], ◌∷◌, ◌++◌, Option, Some, None, ◌⊎◌, inl, inr, refl, sym, ap, ◌∙◌, subst, arith, ◌↔◌}
+use Rattle.std.proofs.Common.{zero, suc, ◌<◌, length, get_or}
+use Rattle.std.specs.Prelude.{unwrap_or, map}
+use Rattle.sc_gate.specs.declared.gate.Gate.{Gate}
+use Rattle.sc_gate.specs.Gates.{operands}
+use Rattle.sc_gate.specs.Wires.{member, Shares}
 use Rattle.sc_gate.specs.declared.gate.Wire.{Wire}
-use Rattle.sc_gate.specs.Chains.{Timed, Chain, InTwo, Greatest, Reached, Bounds, best, or_zero, critical_of, IsCritical, total_weight}
+use Rattle.sc_gate.specs.Chains.{Timed, timed, meets_at, Depend, Chain, InTwo, Greatest, Reached, Bounds, best, or_zero, critical_of, IsCritical, total_weight}
 use Rattle.sc_gate.proofs.Weighs.{Weighs}
 use Rattle.sc_gate.proofs.Positions.{chain_of, weighs_of, greatest_chain}
 use Rattle.sc_gate.proofs.Joined.{Joined, split, join}
@@ -22,6 +27,14 @@ pub critical_chain : (gates : List Timed) → IsCritical gates (critical_of gate
 critical_chain gates =
     let g = greatest_chain gates None None in
     record { reached = zero_or_reached (Chain gates None None) (best gates None None) g.reached; bounds = zero_or_below (Chain gates None None) (best gates None None) g }
+
+unwrap_zero : (r : Option ℕ) → unwrap_or r 0 ≡ or_zero r
+unwrap_zero None = refl
+unwrap_zero (Some n) = refl
+
+-- the critical path, from the greatest weight of a chain
+pub critical_by : (gates : List Timed) (r : Option ℕ) (n : ℕ) → n ≡ unwrap_or r 0 → r ≡ best gates None None → IsCritical gates n
+critical_by gates r n e b = subst (λ (m : ℕ). IsCritical gates m) (sym (e ∙ unwrap_zero r ∙ ap or_zero b)) (critical_chain gates)
 
 joined_in : (xs ys : List Timed) (from to : Option Wire) (n : ℕ) → Joined xs ys from to n → InTwo xs ys from to n
 joined_in xs ys from to n (inl (inl h)) = inl (inl (chain_of xs to from n h))
@@ -51,3 +64,16 @@ chain_within gates from to n c = weighs_within gates from to n (weighs_of gates 
 pub total_weight-append : (xs ys : List Timed) → total_weight (xs ++ ys) ≡ total_weight xs + total_weight ys
 total_weight-append [] ys = omega arith
 total_weight-append (g ∷ xs) ys = let e : total_weight (xs ++ ys) ≡ total_weight xs + total_weight ys = total_weight-append xs ys in omega arith
+
+meets_at-timed : (times : List ℕ) (gates : List Gate) (p : ℕ) (d : Gate) (w : Wire) → p < length gates → meets_at (map (timed times) gates) p (Some w) ≡ member w (operands (get_or gates p d))
+meets_at-timed times [] p d w h = absurd (omega arith)
+meets_at-timed times (g ∷ gates) zero d w h = refl
+meets_at-timed times (g ∷ gates) (suc p) d w h = meets_at-timed times gates p d w (omega arith)
+
+-- the gates at two positions depend on each other exactly where they share a wire
+pub depend_tells : (times : List ℕ) (gates : List Gate) (p q : ℕ) (d : Gate) → p < length gates → q < length gates →
+    Depend (map (timed times) gates) p q ↔ Shares (get_or gates p d) (get_or gates q d)
+depend_tells times gates p q d h k = (
+  λ s. (s.0, sym (meets_at-timed times gates p d s.0 h) ∙ s.1, sym (meets_at-timed times gates q d s.0 k) ∙ s.2),
+  λ s. (s.0, meets_at-timed times gates p d s.0 h ∙ s.1, meets_at-timed times gates q d s.0 k ∙ s.2),
+)

@@ -7,7 +7,7 @@ use Rattle.sc_gate.proofs.Greatest.{greatest_same}
 use Rattle.sc_gate.proofs.Weighs.{Weighs, Begins, greatest_weighs}
 
 -- a chain of the later gates is one of all
-later_linked : (g : Timed) (gates : List Timed) (p : ℕ) (rest : List ℕ) → Linked gates p rest → Linked (g ∷ gates) (suc p) (map suc rest)
+pub later_linked : (g : Timed) (gates : List Timed) (p : ℕ) (rest : List ℕ) → Linked gates p rest → Linked (g ∷ gates) (suc p) (map suc rest)
 later_linked g gates p [] h = tt
 later_linked g gates p (q ∷ rest) h = (let l : p < q = h.0 in omega arith, h.1, later_linked g gates q rest h.2)
 
@@ -15,7 +15,7 @@ later_last : (p : ℕ) (rest : List ℕ) → last_of (suc p) (map suc rest) ≡ 
 later_last p [] = refl
 later_last p (q ∷ rest) = later_last q rest
 
-later_weight : (g : Timed) (gates : List Timed) (p : ℕ) (rest : List ℕ) → weight_of (g ∷ gates) (suc p) (map suc rest) ≡ weight_of gates p rest
+pub later_weight : (g : Timed) (gates : List Timed) (p : ℕ) (rest : List ℕ) → weight_of (g ∷ gates) (suc p) (map suc rest) ≡ weight_of gates p rest
 later_weight g gates p [] = refl
 later_weight g gates p (q ∷ rest) = ap (λ (z : ℕ). weight_at gates p + z) (later_weight g gates q rest)
 
@@ -50,17 +50,17 @@ mutual
   chain_of (g ∷ gates) to from n (inr h) = begins_chain g gates from to n (chain_of gates to) h.0 h.1
 
 -- the positions of a chain past the first gate
-abbrev back_of : List ℕ → List ℕ
+abbrev pub back_of : List ℕ → List ℕ
 back_of [] = []
 back_of (zero ∷ rest) = zero ∷ back_of rest
 back_of (suc p ∷ rest) = p ∷ back_of rest
 
-back_up : (p : ℕ) (g : Timed) (gates : List Timed) (rest : List ℕ) → Linked (g ∷ gates) (suc p) rest → map suc (back_of rest) ≡ rest
+pub back_up : (p : ℕ) (g : Timed) (gates : List Timed) (rest : List ℕ) → Linked (g ∷ gates) (suc p) rest → map suc (back_of rest) ≡ rest
 back_up p g gates [] h = refl
 back_up p g gates (zero ∷ rest) h = let l : suc p < 0 = h.0 in absurd (omega arith)
 back_up p g gates (suc q ∷ rest) h = ap (λ (r : List ℕ). suc q ∷ r) (back_up q g gates rest h.2)
 
-back_linked : (g : Timed) (gates : List Timed) (p : ℕ) (rest : List ℕ) → Linked (g ∷ gates) (suc p) (map suc rest) → Linked gates p rest
+pub back_linked : (g : Timed) (gates : List Timed) (p : ℕ) (rest : List ℕ) → Linked (g ∷ gates) (suc p) (map suc rest) → Linked gates p rest
 back_linked g gates p [] h = tt
 back_linked g gates p (q ∷ rest) h = (let l : suc p < suc q = h.0 in omega arith, h.1, back_linked g gates q rest h.2)
 

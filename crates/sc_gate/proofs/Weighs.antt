@@ -1,6 +1,5 @@
 -- Chains, gate by gate from the front.
-use Rattle.std.proofs.Common.{◌≡◌, ℕ, ◌+◌, List, [], ◌∷◌, Bool, true, false, Option, Some, ◌⊎◌, inl, inr, refl, sym, ap, subst, arith, eqb-true, eq-eqb}
-use Rattle.std.specs.Prelude.{◌||◌, nat_eq}
+use Rattle.std.proofs.Common.{◌≡◌, ℕ, ◌+◌, List, [], ◌∷◌, true, Option, Some, ◌⊎◌, inl, inr, refl, sym, subst, arith}
 use Rattle.sc_gate.specs.declared.gate.Wire.{Wire}
 use Rattle.sc_gate.specs.Wires.{member}
 use Rattle.sc_gate.specs.Chains.{Timed, meets, Greatest, more, plus, when, over, best}

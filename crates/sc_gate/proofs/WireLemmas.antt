@@ -1,5 +1,5 @@
 -- Tests on wires tell what they test.
-use Rattle.std.proofs.Common.{◌≡◌, ℕ, Bool, true, false, List, [], ◌∷◌, Option, Some, None, ◌⊎◌, inl, inr, refl, sym, ap, ◌∙◌, subst, eqb-true, eq-eqb, ◌↔◌, IsTrue}
+use Rattle.std.proofs.Common.{◌≡◌, ℕ, Bool, true, false, List, [], ◌∷◌, ◌⊎◌, inl, inr, refl, sym, ap, ◌∙◌, subst, eqb-true, eq-eqb, ◌↔◌, IsTrue}
 use Rattle.std.specs.Prelude.{◌&&◌, ◌||◌, nat_eq}
 use Rattle.std.specs.List.{list_any}
 use Rattle.std.proofs.lemmas.Bool.{or_cases}
@@ -31,11 +31,14 @@ same_class-refl C = refl
 unfoldable wire_of : Class → ℕ → Wire
 wire_of class number = record { class = class; number = number }
 
-pub same_wire-true : (v w : Wire) → same_wire v w ≡ true → v ≡ w
+pub same_parts : (v w : Wire) → v.class ≡ w.class → v.number ≡ w.number → v ≡ w
 unfolding wire_of
+same_parts v w c n = ap (λ (x : Class). wire_of x v.number) c ∙ ap (λ (x : ℕ). wire_of w.class x) n
+
+pub same_wire-true : (v w : Wire) → same_wire v w ≡ true → v ≡ w
 same_wire-true v w h =
     let both = and_true (same_class v.class w.class) (nat_eq v.number w.number) h in
-    ap (λ (c : Class). wire_of c v.number) (same_class-true v.class w.class both.0) ∙ ap (λ (n : ℕ). wire_of w.class n) (eqb-true v.number w.number both.1)
+    same_parts v w (same_class-true v.class w.class both.0) (eqb-true v.number w.number both.1)
 
 pub same_wire-refl : (w : Wire) → same_wire w w ≡ true
 same_wire-refl w = ap (λ (t : Bool). t && nat_eq w.number w.number) (same_class-refl w.class) ∙ eq-eqb w.number w.number refl

@@ -4,7 +4,7 @@ use Rattle.sc_gate.specs.declared.gate.Wire.{Wire}
 use Rattle.sc_gate.specs.declared.gate.Gate.{Gate}
 use Rattle.sc_gate.specs.Gates.{operands}
 use Rattle.sc_gate.specs.Times.{duration}
-use Rattle.sc_gate.specs.Wires.{member}
+use Rattle.sc_gate.specs.Wires.{same_wire, member}
 
 -- what chains see of a gate: its duration and its wires
 pub record Timed : Type 0 where
@@ -165,7 +165,16 @@ pub record Arrives : Type 0 where
   pub wire : Wire
   pub time : ℕ
 
+abbrev pub wire_of : Arrives → Wire
+wire_of a = a.wire
+
 -- one time for each parameter wire, and 0 at every other wire
 abbrev pub times_of : List Arrives → Wire → ℕ
 times_of [] w = 0
-times_of (a ∷ arrivals) w = if member w (a.wire ∷ []) then a.time else times_of arrivals w
+times_of (a ∷ arrivals) w = if same_wire a.wire w then a.time else times_of arrivals w
+
+-- the arrival time at w by a table of greatest weights: the greatest of the time at w, of the weights of chains that end
+-- at w, and of those that start at a parameter wire, each after the time of that wire
+abbrev pub arrival_by : List Arrives → (Option Wire → Option Wire → Option ℕ) → Wire → ℕ
+arrival_by arrivals get w =
+    or_zero (more (Some (times_of arrivals w)) (more (get None (Some w)) (over (map wire_of arrivals) (λ u. plus (Some (times_of arrivals u)) (get (Some u) (Some w))))))

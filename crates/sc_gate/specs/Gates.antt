@@ -90,6 +90,10 @@ pub record IsWellFormed (gate : Gate) : Type 0 where
   -- c is there only where b is
   pub in_order : IsSome gate.c → IsSome gate.b
 
+abbrev pub AreWellFormed : List Gate → Type 0
+AreWellFormed [] = Unit {0}
+AreWellFormed (g ∷ gates) = IsWellFormed g × AreWellFormed gates
+
 -- the two kinds undo each other
 abbrev pub undo : Kind → Kind → Bool
 undo kind.X kind.X = true

@@ -8,7 +8,7 @@ use Rattle.sc_gate.specs.declared.gate.Wire.{Wire}
 use Rattle.sc_gate.specs.declared.gate.Kind.{Kind}
 use Rattle.sc_gate.specs.declared.gate.Kind.TheVariants as kind
 use Rattle.sc_gate.specs.declared.gate.Gate.{Gate}
-use Rattle.sc_gate.specs.Angles.{fixed_text}
+use Rattle.sc_base.specs.Decimals.{fixed_text}
 use Rattle.sc_gate.specs.Gates.{name_of, operands}
 
 -- `q` for a qubit and `c` for a classical bit
@@ -34,13 +34,6 @@ value_texts (kind.PrepX start) = start_text start ∷ []
 value_texts (kind.PrepZ start) = start_text start ∷ []
 value_texts _ = []
 
--- a kind without an angle
-abbrev pub HasNoAngle : Kind → Type 0
-HasNoAngle (kind.Rx angle) = ⊥
-HasNoAngle (kind.Ry angle) = ⊥
-HasNoAngle (kind.Rz angle) = ⊥
-HasNoAngle _ = Unit {0}
-
 -- each with a comma before it
 abbrev pub after_commas : List (List ℕ) → List ℕ
 after_commas texts = flat_map (λ text. 44 ∷ text) texts
@@ -54,7 +47,14 @@ gate_line gate =
 abbrev pub number_line : List ℕ → ℕ → List ℕ
 number_line word n = word ++ codes " " ++ decimal n ++ codes "\n"
 
+-- the four lines before the gate lines of a flat text
+abbrev pub flat_header : ℕ → ℕ → ℕ → List ℕ
+flat_header qubits cbits gates =
+    codes "flat 1\n" ++ number_line (codes "qbits") qubits ++ number_line (codes "cbits") cbits ++ number_line (codes "gates") gates
+
+abbrev pub gate_lines : List Gate → List ℕ
+gate_lines gates = flat_map gate_line gates
+
 -- the flat text of so many qubits and classical bits and of these gates
 abbrev pub flat_text : ℕ → ℕ → List Gate → List ℕ
-flat_text qubits cbits gates =
-    codes "flat 1\n" ++ number_line (codes "qbits") qubits ++ number_line (codes "cbits") cbits ++ number_line (codes "gates") (length gates) ++ flat_map gate_line gates
+flat_text qubits cbits gates = flat_header qubits cbits (length gates) ++ gate_lines gates

@@ -7,7 +7,7 @@ ghost use Rattle.sc_gate.specs.Wires.{member, Shares, shares};
 use sc_base::{Class, Fixed, GateName};
 
 /// A wire of its class. Qubits and classical bits are numbered apart, each from 0.
-#[derive(Clone, Copy, Debug, PartialEq, Eq)]
+#[derive(Clone, Copy, Debug, Default, PartialEq, Eq)]
 pub struct Wire {
     pub class: Class,
     pub number: u32,
@@ -135,7 +135,7 @@ fn has_operand_of(gate: &Gate, other: &Gate) -> bool
 }
 
 /// Whether the wire is an operand of the gate.
-fn has_wire(gate: &Gate, wire: Wire) -> bool
+pub(crate) fn has_wire(gate: &Gate, wire: Wire) -> bool
     ensures { result ≡ member wire (operands gate.now) }
 {
     gate.a == wire || gate.b == Some(wire) || gate.c == Some(wire)

@@ -3,11 +3,11 @@ ghost use Rattle.std.specs.Prelude.{◌≡◌, ◌+◌, ◌<◌, ◌≤◌, fals
 ghost use Rattle.sc_base.specs.Causes.{HasCause};
 ghost use Rattle.sc_base.specs.GateNames.{gate_text};
 ghost use Rattle.sc_base.specs.Output.{Wrote, WrotePrefix};
-ghost use Rattle.sc_gate.specs.Lines.{HasNoAngle, wire_text, value_texts, after_commas, gate_line};
+ghost use Rattle.sc_gate.specs.Lines.{wire_text, value_texts, after_commas, gate_line};
 
 use crate::{Gate, Kind, Wire};
 use itoa::Buffer;
-use sc_base::{Class, GateName, Sink, WriteFault, write_all};
+use sc_base::{Class, GateName, Sink, WriteFault, write_all, write_fixed};
 use std::marker::Model;
 
 /// More than the longest gate line.
@@ -82,8 +82,7 @@ impl Line {
 
     /// A comma and the angle or start value, where there is one.
     fn push_value(&mut self, kind: &Kind)
-        requires plain { HasNoAngle kind.now }
-        requires room { length self.old + 25 ≤ 80 }
+        requires { length self.old + 25 ≤ 80 }
         ensures text { self.new ≡ self.old ++ after_commas (value_texts kind.now) }
         ensures short { length self.new ≤ length self.old + 25 }
     {
@@ -91,13 +90,18 @@ impl Line {
             Kind::PrepX(start) | Kind::PrepZ(start) => {
                 self.push(if start { b",1" } else { b",0" });
             }
+            Kind::Rx(angle) | Kind::Ry(angle) | Kind::Rz(angle) => {
+                let mut buffer = [0; 24];
+                let count = write_fixed(angle, &mut buffer);
+                self.push(b",");
+                self.push(&buffer[..count]);
+            }
             _ => {}
         }
     }
 }
 
 fn line_of(gate: &Gate) -> Line
-    requires { HasNoAngle gate.now.kind }
     ensures { result ≡ gate_line gate.now }
 {
     let mut line = Line::new();
@@ -113,8 +117,7 @@ fn line_of(gate: &Gate) -> Line
 
 /// Writes the gate line: the name, a space, the operands and then the angle or start value, joined by commas, and a line feed.
 pub fn write_gate<O: Sink>(gate: &Gate, out: &mut O) -> Result<(), WriteFault>
-    requires plain { HasNoAngle gate.now.kind }
-    requires open { O.is_ended out.old ≡ false }
+    requires { O.is_ended out.old ≡ false }
     ensures open { O.is_ended out.new ≡ false }
     ensures appended { OnOk result (Wrote O.tells O.bytes out.old out.new (gate_line gate.now)) }
     ensures prefix { WrotePrefix O.tells O.bytes out.old out.new (gate_line gate.now) }

@@ -9,7 +9,7 @@ use std::marker::Model;
 
 /// One duration for each gate name, seen as the list of the 18 numbers in the order of names. Each is from 1
 /// to 1,000,000.
-#[derive(Clone, Copy)]
+#[derive(Clone, Copy, Debug, PartialEq, Eq)]
 pub struct Times {
     numbers: [u32; 18],
 }

@@ -5,8 +5,8 @@ use Rattle.std.proofs.lemmas.Bool.{false≢true}
 use Rattle.std.proofs.lemmas.Bool.Decides.{nat_tests}
 use Rattle.std.proofs.lemmas.List.{length-append, take_at, drop_at, take_more, drop_more, take-append-drop, append-nil, length-take-le}
 use Rattle.std.specs.List.{list_all, prefix_len}
-use Rattle.sc_syntax.specs.declared.piece.Kind.{Kind}
-use Rattle.sc_syntax.specs.declared.piece.Kind.TheVariants.{Space, LineComment, BlockComment, OpenComment, Directive, Word, Number, Sign}
+use Rattle.sc_syntax.specs.declared.piece.PieceKind.{PieceKind}
+use Rattle.sc_syntax.specs.declared.piece.PieceKind.TheVariants.{Space, LineComment, BlockComment, OpenComment, Directive, Word, Number, Sign}
 use Rattle.sc_syntax.specs.declared.token.Mark.{Mark}
 use Rattle.sc_syntax.specs.Bytes.{is_letter, is_digit, is_word}
 use Rattle.sc_syntax.specs.Cuts.{BeginsWith, HasNoMark, IsLongestMark}
@@ -53,21 +53,21 @@ front_stops next [] = tt
 front_stops next (x ∷ xs) = stops_at next x xs (next x) refl (front_stops next xs)
 
 -- a piece is of the kind that its bytes tell
-as_kind : (fresh : Bool) (kind other : Kind) (p : List ℕ) → kind_by p ≡ kind → IsPiece fresh other p → IsPiece fresh kind p
+as_kind : (fresh : Bool) (kind other : PieceKind) (p : List ℕ) → kind_by p ≡ kind → IsPiece fresh other p → IsPiece fresh kind p
 as_kind fresh kind other p by h =
-    let P : Kind → Type 0 = λ k. IsPiece fresh k p in
+    let P : PieceKind → Type 0 = λ k. IsPiece fresh k p in
     subst P (kind_is fresh other p h ∙ by) h
 
 -- the same piece at an equal first byte
-at_first : (fresh : Bool) (other : Kind) (c d : ℕ) (ds : List ℕ) → d ≡ c → IsPiece fresh other (d ∷ ds) → IsPiece fresh other (c ∷ ds)
+at_first : (fresh : Bool) (other : PieceKind) (c d : ℕ) (ds : List ℕ) → d ≡ c → IsPiece fresh other (d ∷ ds) → IsPiece fresh other (c ∷ ds)
 at_first fresh other c d ds e h =
     let P : ℕ → Type 0 = λ x. IsPiece fresh other (x ∷ ds) in
     subst P e h
 
-run_longest : (fresh : Bool) (next : ℕ → Bool) (kind : Kind) (c : ℕ) (cs rest : List ℕ) → Stops next rest
+run_longest : (fresh : Bool) (next : ℕ → Bool) (kind : PieceKind) (c : ℕ) (cs rest : List ℕ) → Stops next rest
     → ((ds : List ℕ) → kind_by (c ∷ ds) ≡ kind)
     → ((ds : List ℕ) → IsPiece fresh kind (c ∷ ds) → list_all next ds ≡ true)
-    → (other : Kind) (q r : List ℕ) → IsPiece fresh other q → q ++ r ≡ c ∷ cs ++ rest → length q ≤ suc (length cs)
+    → (other : PieceKind) (q r : List ℕ) → IsPiece fresh other q → q ++ r ≡ c ∷ cs ++ rest → length q ≤ suc (length cs)
 run_longest fresh next kind c cs rest s by only other [] r p e = zero-le
 run_longest fresh next kind c cs rest s by only other (d ∷ ds) r p e =
     let here = as_kind fresh kind other (c ∷ ds) (by ds) (at_first fresh other c d ds (cc) p) in
@@ -139,7 +139,7 @@ directive_next (c ∷ cs) n l h e =
 
 -- ---- comments
 
-line_longest : (fresh : Bool) (cs rest : List ℕ) → Stops is_inline rest → (other : Kind) (q r : List ℕ) → IsPiece fresh other q → q ++ r ≡ 47 ∷ 47 ∷ (cs ++ rest) → length q ≤ suc (suc (length cs))
+line_longest : (fresh : Bool) (cs rest : List ℕ) → Stops is_inline rest → (other : PieceKind) (q r : List ℕ) → IsPiece fresh other q → q ++ r ≡ 47 ∷ 47 ∷ (cs ++ rest) → length q ≤ suc (suc (length cs))
 line_longest fresh cs rest s other [] r p e = zero-le
 line_longest fresh cs rest s other (c ∷ []) r p e = suc-le-suc zero-le
 line_longest fresh cs rest s other (c ∷ d ∷ ds) r p e =
@@ -168,7 +168,7 @@ block_bound t u r rest h e =
     let joined : (u ++ 42 ∷ []) ++ 47 ∷ r ≡ t ++ 42 ∷ 47 ∷ rest = append_assoc u (42 ∷ []) (47 ∷ r) ∙ sym (append_assoc u (42 ∷ 47 ∷ []) r) ∙ e in
     omega (arith, no_end_bound t (u ++ 42 ∷ []) (47 ∷ r) rest h joined, length-append u (42 ∷ []))
 
-comment_case : (fresh : Bool) (t rest : List ℕ) (other : Kind) (ds r : List ℕ) (b : Bool) → has_end ds ≡ b → IsPiece fresh other (47 ∷ 42 ∷ ds) → ds ++ r ≡ t ++ 42 ∷ 47 ∷ rest
+comment_case : (fresh : Bool) (t rest : List ℕ) (other : PieceKind) (ds r : List ℕ) (b : Bool) → has_end ds ≡ b → IsPiece fresh other (47 ∷ 42 ∷ ds) → ds ++ r ≡ t ++ 42 ∷ 47 ∷ rest
     → length ds ≤ length (t ++ 42 ∷ 47 ∷ [])
 comment_case fresh t rest other ds r true h p e =
     let by : kind_by (47 ∷ 42 ∷ ds) ≡ BlockComment = ap (λ b. cond b BlockComment OpenComment) h in
@@ -182,7 +182,7 @@ comment_case fresh t rest other ds r false h p e =
     let none : HasNoEnd ds = subst HasNoEnd inside comment.2 in
     omega (arith, no_end_bound t ds r rest none e, length-append t (42 ∷ 47 ∷ []))
 
-block_longest : (fresh : Bool) (t rest : List ℕ) (other : Kind) (q r : List ℕ) → IsPiece fresh other q → q ++ r ≡ 47 ∷ 42 ∷ (t ++ 42 ∷ 47 ∷ rest) → length q ≤ suc (suc (length (t ++ 42 ∷ 47 ∷ [])))
+block_longest : (fresh : Bool) (t rest : List ℕ) (other : PieceKind) (q r : List ℕ) → IsPiece fresh other q → q ++ r ≡ 47 ∷ 42 ∷ (t ++ 42 ∷ 47 ∷ rest) → length q ≤ suc (suc (length (t ++ 42 ∷ 47 ∷ [])))
 block_longest fresh t rest other [] r p e = zero-le
 block_longest fresh t rest other (c ∷ []) r p e = suc-le-suc zero-le
 block_longest fresh t rest other (c ∷ d ∷ ds) r p e =
@@ -198,7 +198,7 @@ block_here fresh t rest h = record {
 }
 
 -- a piece at its place in the bytes
-placed_next : (fresh : Bool) (kind : Kind) (p rest z : List ℕ) (n : ℕ) → p ++ rest ≡ z → length p ≡ n → IsNext fresh kind p rest → IsNext fresh kind (take n z) (drop n z)
+placed_next : (fresh : Bool) (kind : PieceKind) (p rest z : List ℕ) (n : ℕ) → p ++ rest ≡ z → length p ≡ n → IsNext fresh kind p rest → IsNext fresh kind (take n z) (drop n z)
 placed_next fresh kind p rest z n e l h =
     let P : List ℕ → Type 0 = λ x. IsNext fresh kind x rest in
     let Q : List ℕ → Type 0 = λ x. IsNext fresh kind (take n z) x in
@@ -274,7 +274,7 @@ two_bytes a b text p r z e f =
     let P : List ℕ → Type 0 = λ x. BeginsWith x a b in
     subst P whole (omega arith, refl, refl)
 
-only_sign : (fresh : Bool) (z : List ℕ) → IsPlain fresh z → (other : Kind) (q r : List ℕ) → IsPiece fresh other q → q ++ r ≡ z → IsPiece fresh Sign q
+only_sign : (fresh : Bool) (z : List ℕ) → IsPlain fresh z → (other : PieceKind) (q r : List ℕ) → IsPiece fresh other q → q ++ r ≡ z → IsPiece fresh Sign q
 only_sign fresh z h Space [] r p e = absurd p
 only_sign fresh z h Space (c ∷ cs) r p e = absurd (false≢true (sym h.white ∙ ap (λ x. is_white (slice_index x 0)) (sym e) ∙ p.0))
 only_sign fresh z h Word [] r p e = absurd p

@@ -3,8 +3,8 @@ use Rattle.std.proofs.Common.{ℕ, ◌≡◌, refl, sym, ap, ◌∙◌, subst, �
 use Rattle.std.specs.declared.result.Result.{Result}
 use Rattle.sc_base.specs.declared.Place.{Place}
 use Rattle.sc_syntax.specs.declared.fault.LexFault.{LexFault}
-use Rattle.sc_syntax.specs.declared.piece.Kind.{Kind}
-use Rattle.sc_syntax.specs.declared.piece.Kind.TheVariants.{Space, LineComment, BlockComment, OpenComment, Directive, Word, Number, Sign}
+use Rattle.sc_syntax.specs.declared.piece.PieceKind.{PieceKind}
+use Rattle.sc_syntax.specs.declared.piece.PieceKind.TheVariants.{Space, LineComment, BlockComment, OpenComment, Directive, Word, Number, Sign}
 use Rattle.sc_syntax.specs.declared.token.Token.{Token}
 use Rattle.sc_syntax.specs.Directives.{Names, no_names, IsScanned, Directs, Defines, directive_word, names_behind, placed}
 use Rattle.sc_syntax.specs.Lexing.{place_after, fault_of, Gives, Reads, at_end, after_piece, at_too_many, at_fault, at_stuck}
@@ -16,10 +16,10 @@ use Rattle.sc_syntax.proofs.Readings.{one_scan}
 use Rattle.sc_syntax.proofs.Scanning.{scan_once}
 
 -- what one cut gives, the other gives
-same_gift : (source : List ℕ) (names : Names) (k k' : Kind) (before p r p' r' : List ℕ) (new : List Token) (after : Names) → SameCut k k' p r p' r'
+same_gift : (source : List ℕ) (names : Names) (k k' : PieceKind) (before p r p' r' : List ℕ) (new : List Token) (after : Names) → SameCut k k' p r p' r'
     → Gives source names k' before p' new after → Gives source names k before p new after
 same_gift source names k k' before p r p' r' new after c g =
-    let P : Kind → Type 0 = λ x. Gives source names x before p' new after in
+    let P : PieceKind → Type 0 = λ x. Gives source names x before p' new after in
     let Q : List ℕ → Type 0 = λ x. Gives source names k before x new after in
     subst Q (sym c.piece) (subst P (sym c.kind) g)
 
@@ -41,7 +41,7 @@ pub record SameGift (new others : List Token) (a b : Names) : Type 0 where
   pub tokens : new ≡ others
   pub names : a ≡ b
 
-one_gift : (source : List ℕ) (names : Names) (kind : Kind) (before piece : List ℕ) (new others : List Token) (a b : Names)
+one_gift : (source : List ℕ) (names : Names) (kind : PieceKind) (before piece : List ℕ) (new others : List Token) (a b : Names)
     → Gives source names kind before piece new a → Gives source names kind before piece others b → SameGift new others a b
 one_gift source names Directive before piece new others a b g h = record { tokens = g.0 ∙ sym h.0; names = one_direction source names (place_after before) before piece a b g.1 h.1 }
 one_gift source names Word before piece new others a b g h = record { tokens = word_case (names piece) (place_after before) before piece new others g.0 h.0; names = g.1 ∙ sym h.1 }

@@ -1,8 +1,8 @@
 -- The bytes of a piece tell its kind.
 use Rattle.std.proofs.Common.{ℕ, ◌≡◌, ◌≢◌, refl, sym, ap, ◌∙◌, subst, ◌+◌, ◌<◌, ◌≤◌, Bool, true, false, cond, ◌||◌, ◌&&◌, ◌==◌, List, [], ◌∷◌, ◌++◌, length, slice_index, arith}
 use Rattle.std.proofs.lemmas.Bool.Decides.{nat_tests}
-use Rattle.sc_syntax.specs.declared.piece.Kind.{Kind}
-use Rattle.sc_syntax.specs.declared.piece.Kind.TheVariants.{Space, LineComment, BlockComment, OpenComment, Directive, Word, Number, Sign}
+use Rattle.sc_syntax.specs.declared.piece.PieceKind.{PieceKind}
+use Rattle.sc_syntax.specs.declared.piece.PieceKind.TheVariants.{Space, LineComment, BlockComment, OpenComment, Directive, Word, Number, Sign}
 use Rattle.sc_syntax.specs.declared.token.Mark.{Mark}
 use Rattle.sc_syntax.specs.declared.token.Mark.TheVariants as mark
 use Rattle.sc_syntax.specs.Bytes.{is_letter, is_digit}
@@ -13,11 +13,11 @@ use Rattle.sc_syntax.proofs.Classes.{white_letter, white_digit, letter_digit}
 use Rattle.sc_syntax.proofs.Ends.{has_end, has_no_end, ends_in}
 
 -- the kind of what begins with `/`
-abbrev pub slash_kind : List ℕ → Kind
+abbrev pub slash_kind : List ℕ → PieceKind
 slash_kind [] = Sign
 slash_kind (d ∷ ds) = cond (d == 47) LineComment (cond (d == 42) (cond (has_end ds) BlockComment OpenComment) Sign)
 
-abbrev pub kind_by : List ℕ → Kind
+abbrev pub kind_by : List ℕ → PieceKind
 kind_by [] = Sign
 kind_by (c ∷ cs) =
     cond (is_white c) Space (cond (is_letter c) Word (cond (is_digit c) Number (cond (c == 46) Number (cond (c == 35) Directive (cond (c == 47) (slash_kind cs) Sign)))))
@@ -64,7 +64,7 @@ mark_kind : (m : Mark) → kind_by (mark_text m) ≡ Sign
 mark_kind mark.PlusPlus = refl
 mark_kind _ = refl
 
-pub kind_is : (fresh : Bool) (k : Kind) (p : List ℕ) → IsPiece fresh k p → k ≡ kind_by p
+pub kind_is : (fresh : Bool) (k : PieceKind) (p : List ℕ) → IsPiece fresh k p → k ≡ kind_by p
 kind_is fresh Space [] h = absurd h
 kind_is fresh Space (c ∷ cs) h = sym (white_by c h.0 cs)
 kind_is fresh LineComment p h = ap kind_by h.1
@@ -91,7 +91,7 @@ mark_some mark.PlusPlus e = cc
 mark_some _ e = cc
 
 -- every piece has a byte
-pub some_byte : (fresh : Bool) (k : Kind) (p r : List ℕ) → IsPiece fresh k p → p ++ r ≡ [] → ⊥
+pub some_byte : (fresh : Bool) (k : PieceKind) (p r : List ℕ) → IsPiece fresh k p → p ++ r ≡ [] → ⊥
 some_byte fresh k (c ∷ cs) r h e = cc
 some_byte fresh Space [] r h e = h
 some_byte fresh LineComment [] r h e = cc

@@ -3,8 +3,8 @@ use Rattle.std.proofs.Common.{ℕ, ◌≡◌, ◌≢◌, refl, sym, ap, ◌∙�
 use Rattle.std.proofs.lemmas.Int.{ints}
 use Rattle.std.proofs.lemmas.List.{length_push, append-nil}
 use Rattle.sc_base.specs.declared.Place.{Place}
-use Rattle.sc_syntax.specs.declared.piece.Kind.{Kind}
-use Rattle.sc_syntax.specs.declared.piece.Kind.TheVariants.{Space, LineComment, BlockComment, OpenComment, Directive, Word, Number, Sign}
+use Rattle.sc_syntax.specs.declared.piece.PieceKind.{PieceKind}
+use Rattle.sc_syntax.specs.declared.piece.PieceKind.TheVariants.{Space, LineComment, BlockComment, OpenComment, Directive, Word, Number, Sign}
 use Rattle.sc_syntax.specs.declared.reading.Reading.{Reading}
 use Rattle.sc_syntax.specs.declared.reading.Reading.TheVariants.{Passed, Read, Unread}
 use Rattle.sc_syntax.specs.declared.token.Token.{Token}
@@ -29,7 +29,7 @@ token_is : (before piece : List ℕ) (place : Place) (start end : ℕ) (s : Toke
 token_is before piece place start end s h = rw (h.start_is, h.end_is) refl
 
 -- the token of a reading is the one that the piece is
-pub scans_token : (kind : Kind) (s : TokenSort) (before piece : List ℕ) (place : Place) (start end : ℕ)
+pub scans_token : (kind : PieceKind) (s : TokenSort) (before piece : List ℕ) (place : Place) (start end : ℕ)
     → IsReadAs kind piece s → StandsAt before piece start end → IsScanned kind place before piece (tokens_of (Read s) place start end)
 scans_token Word s before piece place start end r h = (s, r, token_is before piece place start end s h)
 scans_token Number s before piece place start end r h = (s, r, token_is before piece place start end s h)
@@ -37,7 +37,7 @@ scans_token Sign s before piece place start end r h = (s, r, token_is before pie
 scans_token _ s before piece place start end r h = absurd r
 
 -- the tokens of a reading are those that the piece is
-pub scans : (kind : Kind) (reading : Reading) (before piece : List ℕ) (place : Place) (start end : ℕ)
+pub scans : (kind : PieceKind) (reading : Reading) (before piece : List ℕ) (place : Place) (start end : ℕ)
     → IsReading kind piece reading → reading ≢ Unread → StandsAt before piece start end
     → IsScanned kind place before piece (tokens_of reading place start end)
 scans kind (Read s) before piece place start end r a h = scans_token kind s before piece place start end r h
@@ -48,7 +48,7 @@ scans BlockComment Passed before piece place start end r a h = refl
 scans _ Passed before piece place start end r a h = absurd r
 
 -- a piece that is not read is no tokens
-pub scans_none : (kind : Kind) (before piece : List ℕ) (place : Place) → IsReading kind piece Unread → (new : List Token) → IsScanned kind place before piece new → ⊥
+pub scans_none : (kind : PieceKind) (before piece : List ℕ) (place : Place) → IsReading kind piece Unread → (new : List Token) → IsScanned kind place before piece new → ⊥
 scans_none Space before piece place r new g = r.0 tt
 scans_none LineComment before piece place r new g = r.0 tt
 scans_none BlockComment before piece place r new g = r.0 tt
@@ -79,7 +79,7 @@ one_token : (place : Place) (before piece : List ℕ) (s t : TokenSort) (new oth
 one_token place before piece s t new others e h k = h ∙ ap (λ x. token_at place before piece x ∷ []) e ∙ sym k
 
 -- a piece is one list of tokens
-pub one_scan : (kind : Kind) (place : Place) (before piece : List ℕ) (new others : List Token) → IsScanned kind place before piece new → IsScanned kind place before piece others → new ≡ others
+pub one_scan : (kind : PieceKind) (place : Place) (before piece : List ℕ) (new others : List Token) → IsScanned kind place before piece new → IsScanned kind place before piece others → new ≡ others
 one_scan Space place before piece new others g h = g ∙ sym h
 one_scan LineComment place before piece new others g h = g ∙ sym h
 one_scan BlockComment place before piece new others g h = g ∙ sym h
@@ -106,7 +106,7 @@ fits_mark text (sort.Mark m) h = tt
 fits_mark text _ h = absurd h
 
 -- the token of a piece fits the piece
-pub fits : (fresh : Bool) (kind : Kind) (text : List ℕ) (s : TokenSort) → IsPiece fresh kind text → IsReadAs kind text s → FitsText s text
+pub fits : (fresh : Bool) (kind : PieceKind) (text : List ℕ) (s : TokenSort) → IsPiece fresh kind text → IsReadAs kind text s → FitsText s text
 fits fresh Word text s p h = fits_word fresh text s p h
 fits fresh Number text s p h = fits_number text s h
 fits fresh Sign text s p h = fits_mark text s h

@@ -1,7 +1,7 @@
 -- The tokens of a directive.
 use Rattle.std.proofs.Common.{ℕ, ◌≡◌, ◌≢◌, refl, sym, ap, ◌∙◌, subst, ◌+◌, ◌<◌, ◌≤◌, Bool, true, false, List, [], ◌∷◌, ◌++◌, length, take, drop, slice_range, arith}
 use Rattle.sc_base.specs.declared.Place.{Place}
-use Rattle.sc_syntax.specs.declared.piece.Kind.{Kind}
+use Rattle.sc_syntax.specs.declared.piece.PieceKind.{PieceKind}
 use Rattle.sc_syntax.specs.declared.reading.Reading.{Reading}
 use Rattle.sc_syntax.specs.declared.reading.Reading.TheVariants.{Unread}
 use Rattle.sc_syntax.specs.declared.token.Token.{Token}
@@ -13,14 +13,14 @@ use Rattle.sc_syntax.proofs.PieceKinds.{some_byte}
 use Rattle.sc_syntax.proofs.Readings.{one_scan, scans, scans_none}
 
 -- what one cut is, the other is
-same_scan : (k k' : Kind) (place : Place) (before p r p' r' : List ℕ) (new : List Token) → SameCut k k' p r p' r' → IsScanned k' place before p' new → IsScanned k place before p new
+same_scan : (k k' : PieceKind) (place : Place) (before p r p' r' : List ℕ) (new : List Token) → SameCut k k' p r p' r' → IsScanned k' place before p' new → IsScanned k place before p new
 same_scan k k' place before p r p' r' new c g =
-    let P : Kind → Type 0 = λ x. IsScanned x place before p' new in
+    let P : PieceKind → Type 0 = λ x. IsScanned x place before p' new in
     let Q : List ℕ → Type 0 = λ x. IsScanned k place before x new in
     subst Q (sym c.piece) (subst P (sym c.kind) g)
 
 -- behind the next piece
-pub scan_next : (place : Place) (before : List ℕ) (ts : List Token) (bytes : List ℕ) (all : List Token) (k : Kind) (p r : List ℕ) (new : List Token)
+pub scan_next : (place : Place) (before : List ℕ) (ts : List Token) (bytes : List ℕ) (all : List Token) (k : PieceKind) (p r : List ℕ) (new : List Token)
     → Scans place before ts bytes all → p ++ r ≡ bytes → IsNext false k p r → IsScanned k place before p new → Scans place (before ++ p) (ts ++ new) r all
 scan_next place _ _ _ _ k p r new (at_end _ _) e n g = absurd (some_byte false k p r n.is_piece e)
 scan_next place _ _ _ _ k p r new (after_piece before ts bytes all k' p' r' new' e' n' g' h) e n g =
@@ -31,7 +31,7 @@ scan_next place _ _ _ _ k p r new (after_piece before ts bytes all k' p' r' new'
     let R : List Token → Type 0 = λ x. Scans place (before ++ p') (ts ++ x) r' all in
     subst P (sym c.piece) (subst Q (sym c.rest) (subst R same h))
 
-scan_unread : (place : Place) (before : List ℕ) (ts : List Token) (bytes : List ℕ) (all : List Token) (k : Kind) (p r : List ℕ)
+scan_unread : (place : Place) (before : List ℕ) (ts : List Token) (bytes : List ℕ) (all : List Token) (k : PieceKind) (p r : List ℕ)
     → Scans place before ts bytes all → p ++ r ≡ bytes → IsNext false k p r → ((new : List Token) → IsScanned k place before p new → ⊥) → ⊥
 scan_unread place _ _ _ _ k p r (at_end _ _) e n none = some_byte false k p r n.is_piece e
 scan_unread place _ _ _ _ k p r (after_piece before ts bytes all k' p' r' new' e' n' g' h) e n none =
@@ -61,7 +61,7 @@ pub record ScansOn (source : List ℕ) (place : Place) (from to at : ℕ) (token
 pub scan_begins : (source : List ℕ) (place : Place) (from to : ℕ) → ScansOn source place from to from []
 scan_begins source place from to = record { forth = λ all h. h; back = λ all h. h }
 
-pub scan_turn : (source rest piece : List ℕ) (place : Place) (from to at n : ℕ) (kind : Kind) (reading : Reading) (tokens : List Token)
+pub scan_turn : (source rest piece : List ℕ) (place : Place) (from to at n : ℕ) (kind : PieceKind) (reading : Reading) (tokens : List Token)
     → ScansOn source place from to at tokens → CutsIn source rest piece at to n false kind → IsReading kind piece reading → reading ≢ Unread
     → ScansOn source place from to (at + n) (tokens ++ tokens_of reading place at (at + n))
 scan_turn source rest piece place from to at n kind reading tokens s c r a =
@@ -94,7 +94,7 @@ scan_stops source rest place from to at tokens s e l stuck all h =
     let P : List ℕ → Type 0 = λ x. Scans place (take at source) tokens x all in
     scan_stuck place _ _ rest all (subst P (sym e) (s.back all h)) l stuck
 
-pub scan_fails : (source rest piece : List ℕ) (place : Place) (from to at n : ℕ) (kind : Kind) (tokens : List Token)
+pub scan_fails : (source rest piece : List ℕ) (place : Place) (from to at n : ℕ) (kind : PieceKind) (tokens : List Token)
     → ScansOn source place from to at tokens → CutsIn source rest piece at to n false kind → IsReading kind piece Unread
     → (all : List Token) → Scans place (take from source) [] (slice_range source from to) all → ⊥
 scan_fails source rest piece place from to at n kind tokens s c r all h =

@@ -7,8 +7,8 @@ use Rattle.sc_base.specs.declared.Place.{Place}
 use Rattle.sc_syntax.specs.declared.fault.LexFault.{LexFault}
 use Rattle.sc_syntax.specs.declared.fault.LexFault.TheVariants as faults
 use Rattle.sc_syntax.specs.declared.lexing.Found.{Found}
-use Rattle.sc_syntax.specs.declared.piece.Kind.{Kind}
-use Rattle.sc_syntax.specs.declared.piece.Kind.TheVariants.{Space, LineComment, BlockComment, OpenComment, Directive, Word, Number, Sign}
+use Rattle.sc_syntax.specs.declared.piece.PieceKind.{PieceKind}
+use Rattle.sc_syntax.specs.declared.piece.PieceKind.TheVariants.{Space, LineComment, BlockComment, OpenComment, Directive, Word, Number, Sign}
 use Rattle.sc_syntax.specs.declared.reading.Reading.{Reading}
 use Rattle.sc_syntax.specs.declared.reading.Reading.TheVariants.{Passed, Read, Unread}
 use Rattle.sc_syntax.specs.declared.token.Token.{Token}
@@ -31,7 +31,7 @@ stands_at source found s =
     record { start_is = sym before; end_is = omega (arith, s.ordered) }
 
 -- a piece of another kind gives what it is read as
-pub gives_plain : (source : List ℕ) (names : Names) (kind : Kind) (before piece : List ℕ) (new : List Token) → kind ≢ Directive → kind ≢ Word
+pub gives_plain : (source : List ℕ) (names : Names) (kind : PieceKind) (before piece : List ℕ) (new : List Token) → kind ≢ Directive → kind ≢ Word
     → IsScanned kind (place_after before) before piece new → Gives source names kind before piece new names
 gives_plain source names Directive before piece new d w h = absurd (d refl)
 gives_plain source names Word before piece new d w h = absurd (w refl)
@@ -42,7 +42,7 @@ gives_plain source names OpenComment before piece new d w h = (h, refl)
 gives_plain source names Number before piece new d w h = (h, refl)
 gives_plain source names Sign before piece new d w h = (h, refl)
 
-scanned_plain : (source : List ℕ) (names : Names) (kind : Kind) (before piece : List ℕ) (new : List Token) (after : Names) → kind ≢ Directive → kind ≢ Word
+scanned_plain : (source : List ℕ) (names : Names) (kind : PieceKind) (before piece : List ℕ) (new : List Token) (after : Names) → kind ≢ Directive → kind ≢ Word
     → Gives source names kind before piece new after → IsScanned kind (place_after before) before piece new
 scanned_plain source names Directive before piece new after d w g = absurd (d refl)
 scanned_plain source names Word before piece new after d w g = absurd (w refl)
@@ -85,12 +85,12 @@ word_reads source found names e none =
     let piece = slice_range source found.start found.end in
     record {
       forth = λ new h.
-          let P : Kind → Type 0 = λ k. IsScanned k (place_after before) before piece new in
-          let Q : Kind → Type 0 = λ k. Gives source names k before piece new names in
+          let P : PieceKind → Type 0 = λ k. IsScanned k (place_after before) before piece new in
+          let Q : PieceKind → Type 0 = λ k. Gives source names k before piece new names in
           subst Q (sym e) (gives_word source names before piece new (names piece) refl none (subst P e h));
       back = λ new after g.
-          let P : Kind → Type 0 = λ k. IsScanned k (place_after before) before piece new in
-          let Q : Kind → Type 0 = λ k. Gives source names k before piece new after in
+          let P : PieceKind → Type 0 = λ k. IsScanned k (place_after before) before piece new in
+          let Q : PieceKind → Type 0 = λ k. Gives source names k before piece new after in
           subst P (sym e) (scanned_word source names before piece new after none (subst Q e g));
     }
 
@@ -159,5 +159,5 @@ directive_refused source found names tokens fault s e f none =
     let before = take found.start source in
     let piece = slice_range source found.start found.end in
     let D : Place → Names → Type 0 = λ p after. Directs source names p before piece after in
-    let G : List Token → Names → Kind → Type 0 = λ new after k. Gives source names k before piece new after in
+    let G : List Token → Names → PieceKind → Type 0 = λ new after k. Gives source names k before piece new after in
     inl (f ∙ ap (λ k. fault_of k found.place) (sym e), λ new after g. none after (subst (λ p. D p after) (sym s.place_is) (subst (G new after) e g).1))

@@ -7,7 +7,7 @@ use Rattle.std.specs.declared.result.Result.{Result}
 use Rattle.sc_base.specs.declared.Place.{Place}
 use Rattle.sc_syntax.specs.declared.fault.LexFault.{LexFault}
 use Rattle.sc_syntax.specs.declared.fault.LexFault.TheVariants as faults
-use Rattle.sc_syntax.specs.declared.piece.Kind.{Kind}
+use Rattle.sc_syntax.specs.declared.piece.PieceKind.{PieceKind}
 use Rattle.sc_syntax.specs.declared.token.Token.{Token}
 use Rattle.sc_syntax.specs.Cuts.{Stands, Takes, Refuses}
 use Rattle.sc_syntax.specs.Directives.{Names, no_names}
@@ -43,11 +43,11 @@ column_small before =
     omega (arith, length-prefix_len is_inline back, prefix_len-le-length is_inline back, length-reverse before)
 
 -- the bytes of the source that are left
-whole : (source rest piece : List ℕ) (at n : ℕ) (kind : Kind) → CutsIn source rest piece at (length source) n (begins_line (take at source)) kind → piece ++ drop n rest ≡ drop at source
+whole : (source rest piece : List ℕ) (at n : ℕ) (kind : PieceKind) → CutsIn source rest piece at (length source) n (begins_line (take at source)) kind → piece ++ drop n rest ≡ drop at source
 whole source rest piece at n kind c = joined source rest piece at (length source) n _ kind c ∙ part_all source at
 
 -- one piece more
-pub turn : (source rest piece : List ℕ) (names after : Names) (tokens more : List Token) (at n : ℕ) (kind : Kind)
+pub turn : (source rest piece : List ℕ) (names after : Names) (tokens more : List Token) (at n : ℕ) (kind : PieceKind)
     → GoesOn source names tokens at → CutsIn source rest piece at (length source) n (begins_line (take at source)) kind → Takes source kind at (at + n) names tokens after more
     → GoesOn source after more (at + n)
 turn source rest piece names after tokens more at n kind g c t = record {
@@ -65,7 +65,7 @@ turn source rest piece names after tokens more at n kind g c t = record {
 }
 
 -- a piece that is not taken
-pub refused : (source rest piece : List ℕ) (names : Names) (tokens : List Token) (at n : ℕ) (kind : Kind) (place : Place) (fault : LexFault)
+pub refused : (source rest piece : List ℕ) (names : Names) (tokens : List Token) (at n : ℕ) (kind : PieceKind) (place : Place) (fault : LexFault)
     → GoesOn source names tokens at → CutsIn source rest piece at (length source) n (begins_line (take at source)) kind → place ≡ place_after (take at source)
     → Refuses source kind place at (at + n) names tokens fault → Reads source [] no_names [] source (Err fault)
 refused source rest piece names tokens at n kind place fault g c e (inl h) =
@@ -101,7 +101,7 @@ front_part source at = let same : at - 0 ≡ at = omega arith in ap (λ n. take 
 fresh_is : (source front : List ℕ) (at : ℕ) (fresh : Bool) → front ≡ slice_range source 0 at → fresh ≡ begins_line front → fresh ≡ begins_line (take at source)
 fresh_is source front at fresh e f = f ∙ ap begins_line (e ∙ front_part source at)
 
-pub cut_here : (source front rest : List ℕ) (at n : ℕ) (fresh : Bool) (kind : Kind) → at ≤ length source → front ≡ slice_range source 0 at → fresh ≡ begins_line front → rest ≡ drop at source
+pub cut_here : (source front rest : List ℕ) (at n : ℕ) (fresh : Bool) (kind : PieceKind) → at ≤ length source → front ≡ slice_range source 0 at → fresh ≡ begins_line front → rest ≡ drop at source
     → n ≤ length rest → IsNext fresh kind (take n rest) (drop n rest) → CutsIn source rest (take n rest) at (length source) n (begins_line (take at source)) kind
 cut_here source front rest at n fresh kind l e f r w h =
     let P : Bool → Type 0 = λ b. IsNext b kind (take n rest) (drop n rest) in
@@ -112,7 +112,7 @@ stuck_here source front rest at fresh e f h =
     let P : Bool → Type 0 = λ b. IsStuck b rest in
     subst P (fresh_is source front at fresh e f) h
 
-pub found_stands : (source rest : List ℕ) (at n : ℕ) (kind : Kind) (place : Place) → CutsIn source rest (take n rest) at (length source) n (begins_line (take at source)) kind → 0 < n
+pub found_stands : (source rest : List ℕ) (at n : ℕ) (kind : PieceKind) (place : Place) → CutsIn source rest (take n rest) at (length source) n (begins_line (take at source)) kind → 0 < n
     → place ≡ place_after (take at source) → Stands source (record { kind = kind; start = at; end = at + n; place = place })
 found_stands source rest at n kind place c l e =
     let fresh = begins_line (take at source) in
@@ -125,7 +125,7 @@ found_stands source rest at n kind place c l e =
     }
 
 -- the place behind a piece
-pub place_moves : (source rest : List ℕ) (at n : ℕ) (kind : Kind) → CutsIn source rest (take n rest) at (length source) n (begins_line (take at source)) kind
+pub place_moves : (source rest : List ℕ) (at n : ℕ) (kind : PieceKind) → CutsIn source rest (take n rest) at (length source) n (begins_line (take at source)) kind
     → take at source ++ slice_range source at (at + n) ≡ take (at + n) source
 place_moves source rest at n kind c =
     let fresh = begins_line (take at source) in

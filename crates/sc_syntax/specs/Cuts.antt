@@ -11,8 +11,8 @@ use Rattle.sc_syntax.specs.declared.fault.LexFault.TheVariants as faults
 use Rattle.sc_syntax.specs.declared.lexing.Found.{Found}
 use Rattle.sc_syntax.specs.declared.piece.Class.{Class}
 use Rattle.sc_syntax.specs.declared.piece.Class.TheVariants as class
-use Rattle.sc_syntax.specs.declared.piece.Kind.{Kind}
-use Rattle.sc_syntax.specs.declared.piece.Kind.TheVariants.{Space, LineComment, BlockComment, OpenComment, Directive, Word, Number, Sign}
+use Rattle.sc_syntax.specs.declared.piece.PieceKind.{PieceKind}
+use Rattle.sc_syntax.specs.declared.piece.PieceKind.TheVariants.{Space, LineComment, BlockComment, OpenComment, Directive, Word, Number, Sign}
 use Rattle.sc_syntax.specs.declared.reading.Reading.{Reading}
 use Rattle.sc_syntax.specs.declared.reading.Reading.TheVariants.{Passed, Read, Unread}
 use Rattle.sc_syntax.specs.declared.token.Mark.{Mark}
@@ -46,14 +46,14 @@ abbrev pub IsLongestMark : List ℕ → ℕ → Type 0
 IsLongestMark text n = ((m : Mark) × (mark_text m ≡ take n text)) × ((m : Mark) (rest : List ℕ) → mark_text m ++ rest ≡ text → length (mark_text m) ≤ n)
 
 -- white space and comments
-abbrev pub IsGap : Kind → Type 0
+abbrev pub IsGap : PieceKind → Type 0
 IsGap Space = Unit {0}
 IsGap LineComment = Unit {0}
 IsGap BlockComment = Unit {0}
 IsGap _ = ⊥
 
 -- what the code reads a piece as
-abbrev pub IsReading : Kind → List ℕ → Reading → Type 0
+abbrev pub IsReading : PieceKind → List ℕ → Reading → Type 0
 IsReading kind text Passed = IsGap kind
 IsReading kind text (Read sort) = IsReadAs kind text sort
 IsReading kind text Unread = (IsGap kind → ⊥) × ((sort : TokenSort) → IsReadAs kind text sort → ⊥)
@@ -92,14 +92,14 @@ pub record Stands (source : List ℕ) (found : Found) : Type 0 where
   pub place_is : found.place ≡ place_after (take found.start source)
 
 -- what a piece of the source does to the names and the tokens
-pub record Takes (source : List ℕ) (kind : Kind) (start end : ℕ) (names : Names) (tokens : List Token) (after : Names) (more : List Token) : Type 0 where
+pub record Takes (source : List ℕ) (kind : PieceKind) (start end : ℕ) (names : Names) (tokens : List Token) (after : Names) (more : List Token) : Type 0 where
   pub new : List Token
   pub gives : Gives source names kind (take start source) (slice_range source start end) new after
   pub grows : more ≡ tokens ++ new
   pub few : length more ≤ most_tokens
 
 -- the piece gives nothing, or more tokens than a source may have
-abbrev pub Refuses : List ℕ → Kind → Place → ℕ → ℕ → Names → List Token → LexFault → Type 0
+abbrev pub Refuses : List ℕ → PieceKind → Place → ℕ → ℕ → Names → List Token → LexFault → Type 0
 Refuses source kind place start end names tokens fault =
     ((fault ≡ fault_of kind place) × ((new : List Token) (after : Names) → Gives source names kind (take start source) (slice_range source start end) new after → ⊥))
     ⊎ ((new : List Token) × ((after : Names) × (Gives source names kind (take start source) (slice_range source start end) new after × (most_tokens < length (tokens ++ new)) × (fault ≡ faults.TooManyTokens place))))

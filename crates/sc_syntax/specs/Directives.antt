@@ -3,8 +3,8 @@ use Rattle.std.specs.Prelude.{ℕ, ◌≡◌, ◌≢◌, ◌+◌, ◌<◌, Bool,
 use Rattle.std.specs.List.{prefix_len}
 use Rattle.sc_base.specs.Texts.{same}
 use Rattle.sc_base.specs.declared.Place.{Place}
-use Rattle.sc_syntax.specs.declared.piece.Kind.{Kind}
-use Rattle.sc_syntax.specs.declared.piece.Kind.TheVariants.{Space, LineComment, BlockComment, OpenComment, Directive, Word, Number, Sign}
+use Rattle.sc_syntax.specs.declared.piece.PieceKind.{PieceKind}
+use Rattle.sc_syntax.specs.declared.piece.PieceKind.TheVariants.{Space, LineComment, BlockComment, OpenComment, Directive, Word, Number, Sign}
 use Rattle.sc_syntax.specs.declared.token.Mark.TheVariants as mark
 use Rattle.sc_syntax.specs.declared.token.Token.{Token}
 use Rattle.sc_syntax.specs.declared.token.TokenSort.{TokenSort}
@@ -19,7 +19,7 @@ abbrev pub token_at : Place → List ℕ → List ℕ → TokenSort → Token
 token_at place before piece sort = record { sort = sort; place = place; start = length before; end = length before + length piece }
 
 -- which tokens a piece is: white space and comments are none, and a word, a number or a mark is one
-abbrev pub IsScanned : Kind → Place → List ℕ → List ℕ → List Token → Type 0
+abbrev pub IsScanned : PieceKind → Place → List ℕ → List ℕ → List Token → Type 0
 IsScanned Space place before piece tokens = tokens ≡ []
 IsScanned LineComment place before piece tokens = tokens ≡ []
 IsScanned BlockComment place before piece tokens = tokens ≡ []
@@ -29,7 +29,7 @@ IsScanned kind place before piece tokens = (sort : TokenSort) × IsReadAs kind p
 -- read as all these tokens. Each token has the place of the directive.
 pub data Scans (place : Place) : List ℕ → List Token → List ℕ → List Token → Type 0 where
   at_end : (before : List ℕ) (tokens : List Token) → Scans place before tokens [] tokens
-  after_piece : (before : List ℕ) (tokens : List Token) (bytes : List ℕ) (all : List Token) (kind : Kind) (piece rest : List ℕ) (new : List Token)
+  after_piece : (before : List ℕ) (tokens : List Token) (bytes : List ℕ) (all : List Token) (kind : PieceKind) (piece rest : List ℕ) (new : List Token)
       → piece ++ rest ≡ bytes
       → IsNext false kind piece rest
       → IsScanned kind place before piece new

@@ -4,8 +4,8 @@ use Rattle.std.specs.declared.result.Result.{Result}
 use Rattle.sc_base.specs.declared.Place.{Place}
 use Rattle.sc_syntax.specs.declared.fault.LexFault.{LexFault}
 use Rattle.sc_syntax.specs.declared.fault.LexFault.TheVariants as fault
-use Rattle.sc_syntax.specs.declared.piece.Kind.{Kind}
-use Rattle.sc_syntax.specs.declared.piece.Kind.TheVariants.{OpenComment, Directive, Word, Number}
+use Rattle.sc_syntax.specs.declared.piece.PieceKind.{PieceKind}
+use Rattle.sc_syntax.specs.declared.piece.PieceKind.TheVariants.{OpenComment, Directive, Word, Number}
 use Rattle.sc_syntax.specs.declared.token.Token.{Token}
 use Rattle.sc_syntax.specs.Directives.{Names, no_names, IsScanned, Directs, placed}
 use Rattle.sc_syntax.specs.Pieces.{IsNext, IsStuck}
@@ -19,14 +19,14 @@ place_after before = record { line = count_by (λ c. c == 10) before + 1; column
 
 -- What a piece gives: its tokens, and the names that are defined behind it. A defined name gives the tokens of its
 -- value, at its own place.
-abbrev pub Gives : List ℕ → Names → Kind → List ℕ → List ℕ → List Token → Names → Type 0
+abbrev pub Gives : List ℕ → Names → PieceKind → List ℕ → List ℕ → List Token → Names → Type 0
 Gives source names Directive before piece tokens after = (tokens ≡ []) × Directs source names (place_after before) before piece after
 Gives source names Word before piece tokens after =
     MatchOption (names piece) (IsScanned Word (place_after before) before piece tokens) (λ value. tokens ≡ map (placed (place_after before)) value) × (after ≡ names)
 Gives source names kind before piece tokens after = IsScanned kind (place_after before) before piece tokens × (after ≡ names)
 
 -- the fault of a piece that gives nothing; of the other kinds each piece gives something
-abbrev pub fault_of : Kind → Place → LexFault
+abbrev pub fault_of : PieceKind → Place → LexFault
 fault_of OpenComment place = fault.OpenComment place
 fault_of Number place = fault.BadNumber place
 fault_of Directive place = fault.BadDefine place
@@ -37,7 +37,7 @@ fault_of _ place = fault.BadByte place
 pub data Reads (source : List ℕ) : List ℕ → Names → List Token → List ℕ → Result (List Token) LexFault → Type 0 where
   at_end : (before : List ℕ) (names : Names) (tokens : List Token) → Reads source before names tokens [] (Ok tokens)
   after_piece : (before : List ℕ) (names : Names) (tokens : List Token) (bytes : List ℕ) (outcome : Result (List Token) LexFault)
-      (kind : Kind) (piece rest : List ℕ) (new : List Token) (after : Names)
+      (kind : PieceKind) (piece rest : List ℕ) (new : List Token) (after : Names)
       → piece ++ rest ≡ bytes
       → IsNext (begins_line before) kind piece rest
       → Gives source names kind before piece new after
@@ -45,13 +45,13 @@ pub data Reads (source : List ℕ) : List ℕ → Names → List Token → List 
       → Reads source (before ++ piece) after (tokens ++ new) rest outcome
       → Reads source before names tokens bytes outcome
   at_too_many : (before : List ℕ) (names : Names) (tokens : List Token) (bytes : List ℕ)
-      (kind : Kind) (piece rest : List ℕ) (new : List Token) (after : Names)
+      (kind : PieceKind) (piece rest : List ℕ) (new : List Token) (after : Names)
       → piece ++ rest ≡ bytes
       → IsNext (begins_line before) kind piece rest
       → Gives source names kind before piece new after
       → most_tokens < length (tokens ++ new)
       → Reads source before names tokens bytes (Err (fault.TooManyTokens (place_after before)))
-  at_fault : (before : List ℕ) (names : Names) (tokens : List Token) (bytes : List ℕ) (kind : Kind) (piece rest : List ℕ)
+  at_fault : (before : List ℕ) (names : Names) (tokens : List Token) (bytes : List ℕ) (kind : PieceKind) (piece rest : List ℕ)
       → piece ++ rest ≡ bytes
       → IsNext (begins_line before) kind piece rest
       → ((new : List Token) (after : Names) → Gives source names kind before piece new after → ⊥)

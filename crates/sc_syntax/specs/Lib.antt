@@ -1,6 +1,11 @@
 pub mod Bytes
+pub mod Count
 pub mod Cuts
 pub mod Directives
+pub mod Formed
+pub mod FormedWords
+pub mod Kind
+pub mod Levels
 pub mod Lexing
 pub mod Marks
 pub mod Names

@@ -4,8 +4,8 @@ use Rattle.std.specs.List.{list_all}
 use Rattle.std.specs.Str.Parse.{IsNumeral, digits_value}
 use Rattle.sc_base.specs.Decimals.{IsDecimal}
 use Rattle.sc_base.specs.GateNames.{gate_text}
-use Rattle.sc_syntax.specs.declared.piece.Kind.{Kind}
-use Rattle.sc_syntax.specs.declared.piece.Kind.TheVariants.{Space, LineComment, BlockComment, OpenComment, Directive, Word, Number, Sign}
+use Rattle.sc_syntax.specs.declared.piece.PieceKind.{PieceKind}
+use Rattle.sc_syntax.specs.declared.piece.PieceKind.TheVariants.{Space, LineComment, BlockComment, OpenComment, Directive, Word, Number, Sign}
 use Rattle.sc_syntax.specs.declared.token.Mark.{Mark}
 use Rattle.sc_syntax.specs.declared.token.TokenSort.{TokenSort}
 use Rattle.sc_syntax.specs.declared.token.TokenSort.TheVariants as sort
@@ -44,7 +44,7 @@ IsNumberText [] = ⊥
 IsNumberText (c ∷ cs) = (begins_number (c ∷ cs) ≡ true) × (list_all is_number cs ≡ true)
 
 -- What a piece of each kind is. A directive stands only where its line begins.
-abbrev pub IsPiece : Bool → Kind → List ℕ → Type 0
+abbrev pub IsPiece : Bool → PieceKind → List ℕ → Type 0
 IsPiece fresh Space piece = IsRun is_white is_white piece
 IsPiece fresh LineComment piece = (text : List ℕ) × (codes "//" ++ text ≡ piece) × (list_all is_inline text ≡ true)
 IsPiece fresh BlockComment piece = (text : List ℕ) × (codes "/*" ++ text ++ codes "*/" ≡ piece) × HasNoEnd (text ++ codes "*")
@@ -55,13 +55,13 @@ IsPiece fresh Number piece = IsNumberText piece
 IsPiece fresh Sign piece = (m : Mark) × (mark_text m ≡ piece)
 
 -- the longest piece that stands before the rest
-pub record IsNext (fresh : Bool) (kind : Kind) (piece rest : List ℕ) : Type 0 where
+pub record IsNext (fresh : Bool) (kind : PieceKind) (piece rest : List ℕ) : Type 0 where
   pub is_piece : IsPiece fresh kind piece
-  pub is_longest : (other : Kind) (q r : List ℕ) → IsPiece fresh other q → q ++ r ≡ piece ++ rest → length q ≤ length piece
+  pub is_longest : (other : PieceKind) (q r : List ℕ) → IsPiece fresh other q → q ++ r ≡ piece ++ rest → length q ≤ length piece
 
 -- no piece stands here
 abbrev pub IsStuck : Bool → List ℕ → Type 0
-IsStuck fresh bytes = (kind : Kind) (piece rest : List ℕ) → IsPiece fresh kind piece → piece ++ rest ≡ bytes → ⊥
+IsStuck fresh bytes = (kind : PieceKind) (piece rest : List ℕ) → IsPiece fresh kind piece → piece ++ rest ≡ bytes → ⊥
 
 -- a reserved word is read as itself, and every other word as a name
 abbrev pub IsWordSort : List ℕ → TokenSort → Type 0
@@ -86,7 +86,7 @@ IsMarkSort text (sort.Mark m) = mark_text m ≡ text
 IsMarkSort text _ = ⊥
 
 -- which token a piece is; white space, comments and directives are none
-abbrev pub IsReadAs : Kind → List ℕ → TokenSort → Type 0
+abbrev pub IsReadAs : PieceKind → List ℕ → TokenSort → Type 0
 IsReadAs Word text sort = IsWordSort text sort
 IsReadAs Number text sort = IsNumberSort text sort
 IsReadAs Sign text sort = IsMarkSort text sort

@@ -9,7 +9,7 @@ use crate::adding::{add_reading, add_value};
 use crate::bytes::{begins_line, part, rest_from};
 use crate::define::{Defined, take_directive};
 use crate::fault::LexFault;
-use crate::piece::{Kind, next_piece};
+use crate::piece::{PieceKind, next_piece};
 use crate::reading::read_piece;
 use crate::token::Tokens;
 use sc_base::Place;
@@ -18,7 +18,7 @@ use std::alloc::Global;
 /// A piece at its place in the source.
 #[derive(Clone, Copy, Debug)]
 pub(crate) struct Found {
-    pub kind: Kind,
+    pub kind: PieceKind,
     pub start: usize,
     pub end: usize,
     pub place: Place,
@@ -59,14 +59,14 @@ fn place_behind(at: Place, text: &[u8]) -> Place
 }
 
 /// The fault of a piece that gives nothing.
-fn fault_of(kind: Kind, place: Place) -> LexFault
+fn fault_of(kind: PieceKind, place: Place) -> LexFault
     ensures { result ≡ fault_of kind place }
 {
     match kind {
-        Kind::OpenComment => LexFault::OpenComment(place),
-        Kind::Number => LexFault::BadNumber(place),
-        Kind::Directive => LexFault::BadDefine(place),
-        Kind::Space | Kind::LineComment | Kind::BlockComment | Kind::Word | Kind::Sign => {
+        PieceKind::OpenComment => LexFault::OpenComment(place),
+        PieceKind::Number => LexFault::BadNumber(place),
+        PieceKind::Directive => LexFault::BadDefine(place),
+        PieceKind::Space | PieceKind::LineComment | PieceKind::BlockComment | PieceKind::Word | PieceKind::Sign => {
             LexFault::BadByte(place)
         }
     }
@@ -80,20 +80,20 @@ fn take_word(
     tokens: &mut Tokens,
 ) -> Result<(), LexFault>
     requires stands { Stands source.now found }
-    requires word { found.kind ≡ Kind.Word }
+    requires word { found.kind ≡ PieceKind.Word }
     requires small { length source.now ≤ 16_777_216 }
     requires read { AreRead source.now tokens.old }
     requires values { AreValues source.now (names_of names.now) }
-    ensures ok { OnOk result (Takes source.now Kind.Word found.start found.end (names_of names.now) tokens.old (names_of names.now) tokens.new) }
+    ensures ok { OnOk result (Takes source.now PieceKind.Word found.start found.end (names_of names.now) tokens.old (names_of names.now) tokens.new) }
     ensures read { OnOk result (AreRead source.now tokens.new) }
-    ensures err { IfErr result (λ f. f ≢ LexFault.Memory → Refuses source.now Kind.Word found.place found.start found.end (names_of names.now) tokens.old f) }
+    ensures err { IfErr result (λ f. f ≢ LexFault.Memory → Refuses source.now PieceKind.Word found.place found.start found.end (names_of names.now) tokens.old f) }
 {
     let text = part(source, found.start, found.end);
     match names.value(text) {
         Some(value) => add_value(tokens, value, found.place),
         None => add_reading(
             tokens,
-            read_piece(Kind::Word, text),
+            read_piece(PieceKind::Word, text),
             LexFault::BadByte(found.place),
             found.place,
             found.start,
@@ -120,10 +120,10 @@ fn take_piece<'a>(
     ensures err { IfErr result (λ f. f ≢ LexFault.Memory → Refuses source.now found.kind found.place found.start found.end (names_of names.old) tokens.old f) }
 {
     match found.kind {
-        Kind::Directive => {
+        PieceKind::Directive => {
             take_directive(alloc, names, source, found.start, found.end, found.place)
         }
-        Kind::Word => take_word(source, found, names, tokens),
+        PieceKind::Word => take_word(source, found, names, tokens),
         kind => {
             let text = part(source, found.start, found.end);
             add_reading(

@@ -5,6 +5,7 @@ mod adding;
 mod bytes;
 mod define;
 mod fault;
+mod kind;
 mod lexing;
 mod piece;
 mod reading;
@@ -12,6 +13,7 @@ mod token;
 mod tree;
 
 pub use fault::LexFault;
+pub use kind::Kind;
 pub use lexing::lex;
 pub use token::{Mark, Token, TokenSort, Tokens, Word};
 pub use tree::{

@@ -13,7 +13,7 @@ use crate::token::Mark;
 
 /// What a piece of a source is.
 #[derive(Clone, Copy, Debug, PartialEq, Eq)]
-pub(crate) enum Kind {
+pub(crate) enum PieceKind {
     /// White space.
     Space,
     /// From `//` to the end of the line.
@@ -46,7 +46,7 @@ pub(crate) enum Class {
 
 #[derive(Clone, Copy, Debug)]
 pub(crate) struct Piece {
-    pub kind: Kind,
+    pub kind: PieceKind,
     pub len: usize,
 }
 
@@ -178,17 +178,17 @@ fn block_comment(text: &[u8]) -> Piece
 {
     match end_at(rest_from(text, 2)) {
         None => Piece {
-            kind: Kind::OpenComment,
+            kind: PieceKind::OpenComment,
             len: text.len(),
         },
         Some(at) => Piece {
-            kind: Kind::BlockComment,
+            kind: PieceKind::BlockComment,
             len: at + 4,
         },
     }
 }
 
-fn run(kind: Kind, class: Class, text: &[u8], from: usize) -> Piece
+fn run(kind: PieceKind, class: Class, text: &[u8], from: usize) -> Piece
     requires { from ≤ length text.now }
     ensures kind { result.kind ≡ kind }
     ensures len { result.len ≡ from + prefix_len (in_class class) (drop from text.now) }
@@ -209,19 +209,19 @@ pub(crate) fn next_piece(fresh: bool, text: &[u8]) -> Option<Piece>
 {
     let first = text[0];
     if is_white(first) {
-        return Some(run(Kind::Space, Class::White, text, 1));
+        return Some(run(PieceKind::Space, Class::White, text, 1));
     }
     if is_letter(first) {
-        return Some(run(Kind::Word, Class::Word, text, 1));
+        return Some(run(PieceKind::Word, Class::Word, text, 1));
     }
     if begins_number(text) {
-        return Some(run(Kind::Number, Class::Number, text, 1));
+        return Some(run(PieceKind::Number, Class::Number, text, 1));
     }
     if fresh && first == b'#' {
-        return Some(run(Kind::Directive, Class::Line, text, 1));
+        return Some(run(PieceKind::Directive, Class::Line, text, 1));
     }
     if begins_with(text, b'/', b'/') {
-        return Some(run(Kind::LineComment, Class::Line, text, 2));
+        return Some(run(PieceKind::LineComment, Class::Line, text, 2));
     }
     if begins_with(text, b'/', b'*') {
         return Some(block_comment(text));
@@ -229,7 +229,7 @@ pub(crate) fn next_piece(fresh: bool, text: &[u8]) -> Option<Piece>
     match mark_len(text) {
         None => None,
         Some(len) => Some(Piece {
-            kind: Kind::Sign,
+            kind: PieceKind::Sign,
             len,
         }),
     }

@@ -8,7 +8,7 @@ ghost use Rattle.sc_syntax.specs.Rows.{row_of};
 ghost use Rattle.sc_syntax.specs.declared.token.Mark.{Mark as Marks};
 ghost use Rattle.sc_syntax.specs.declared.token.TokenSort.{TokenSort as OneSort};
 
-use crate::piece::{Kind, mark_of, mark_of_two};
+use crate::piece::{PieceKind, mark_of, mark_of_two};
 use crate::token::{Mark, TokenSort, Word};
 use sc_base::{GateName, read_fixed, read_u64};
 
@@ -111,18 +111,18 @@ fn mark_in(text: &[u8]) -> Option<Mark>
 }
 
 /// What a piece is read as.
-pub(crate) fn read_piece(kind: Kind, text: &[u8]) -> Reading
+pub(crate) fn read_piece(kind: PieceKind, text: &[u8]) -> Reading
     ensures { IsReading kind text.now result }
 {
     match kind {
-        Kind::Space | Kind::LineComment | Kind::BlockComment => Reading::Passed,
-        Kind::OpenComment | Kind::Directive => Reading::Unread,
-        Kind::Word => Reading::Read(word_sort(text)),
-        Kind::Number => match number_sort(text) {
+        PieceKind::Space | PieceKind::LineComment | PieceKind::BlockComment => Reading::Passed,
+        PieceKind::OpenComment | PieceKind::Directive => Reading::Unread,
+        PieceKind::Word => Reading::Read(word_sort(text)),
+        PieceKind::Number => match number_sort(text) {
             None => Reading::Unread,
             Some(sort) => Reading::Read(sort),
         },
-        Kind::Sign => match mark_in(text) {
+        PieceKind::Sign => match mark_in(text) {
             None => Reading::Unread,
             Some(mark) => Reading::Read(TokenSort::Mark(mark)),
         },

@@ -1,0 +1,13 @@
+pub mod BodyLemmas
+pub mod CallLemmas
+pub mod CalleeLemmas
+pub mod DeckLemmas
+pub mod EarlierLemmas
+pub mod FindLemmas
+pub mod GateTests
+pub mod PlaceLaws
+pub mod PushLemmas
+pub mod RenameLaws
+pub mod RepeatLemmas
+pub mod SequenceLaws
+pub mod TurnLaws

@@ -1,0 +1,14 @@
+pub mod Bodies
+pub mod Decks
+pub mod Entries
+pub mod Events
+pub mod Hierarchical
+pub mod Items
+pub mod KeyLaws
+pub mod Keys
+pub mod Modules
+pub mod Numbers
+pub mod Renaming
+pub mod Repeats
+pub mod Turns
+pub mod Unfolding

@@ -1,0 +1,17 @@
+-- Wires that stand twice in a list.
+use Rattle.std.specs.Prelude.{◌≡◌, ℕ, ◌+◌, ◌<◌, List, length, slice_get}
+use Rattle.sc_base.specs.declared.names.Class.{Class}
+use Rattle.sc_base.specs.declared.names.Class.TheVariants.{Q, C}
+use Rattle.sc_gate.specs.declared.gate.Wire.{Wire}
+
+-- the list is longer than i, and its element at i stands at an earlier place too
+abbrev pub StandsEarlier : List Wire → ℕ → Type 0
+StandsEarlier wires i = (j : ℕ) × (j < i) × (i < length wires) × (slice_get wires j ≡ slice_get wires i)
+
+-- a place for each wire with a number below 65,536, qubits first
+abbrev pub place_at : Class → ℕ → ℕ
+place_at Q n = n
+place_at C n = n + 65536
+
+abbrev pub place_of : Wire → ℕ
+place_of wire = place_at wire.class wire.number

@@ -1,0 +1,79 @@
+-- Items with turns, written out and folded.
+use Rattle.std.specs.Prelude.{ℕ, ◌+◌, ℤ, pos, nat_eq, Bool, true, false, ◌&&◌, Option, Some, None, List, [], ◌∷◌, ◌++◌, map, fold, replicate, if◌then◌else◌}
+use Rattle.std.specs.Cmp.Lexicographic.{pointwise}
+use Rattle.std.specs.Ordering.{int_eq}
+use Rattle.sc_gate.specs.declared.gate.Wire.{Wire}
+use Rattle.sc_gate.specs.declared.gate.Kind.{Kind}
+use Rattle.sc_gate.specs.declared.gate.Kind.TheVariants as kind
+use Rattle.sc_gate.specs.declared.gate.Gate.{Gate}
+use Rattle.sc_gate.specs.Gates.{name_of, place_of}
+use Rattle.sc_gate.specs.Wires.{same_wire}
+use Rattle.sc_deck.specs.declared.item.Item.{Item}
+use Rattle.sc_deck.specs.declared.item.Item.TheVariants as item
+use Rattle.sc_deck.specs.Modules.{Module}
+
+-- an item with n turns stands for n equal items
+abbrev pub written_out : Item → List Item
+written_out (item.Fresh class n) = item.Fresh class n ∷ []
+written_out (item.Gate gate) = item.Gate gate ∷ []
+written_out (item.Call callee wires) = item.Call callee wires ∷ []
+written_out (item.Gates gate turns) = replicate turns (item.Gate gate)
+written_out (item.Calls callee wires turns) = replicate turns (item.Call callee wires)
+
+-- the item has two turns or more
+abbrev pub has_turns : Item → Bool
+has_turns (item.Fresh class n) = false
+has_turns (item.Gate gate) = false
+has_turns (item.Call callee wires) = false
+has_turns (item.Gates gate turns) = true
+has_turns (item.Calls callee wires turns) = true
+
+-- the angle or the start value of a kind, as a number
+abbrev pub value_of : Kind → ℤ
+value_of (kind.Rx angle) = angle.0
+value_of (kind.Ry angle) = angle.0
+value_of (kind.Rz angle) = angle.0
+value_of (kind.PrepX start) = if start then pos 1 else pos 0
+value_of (kind.PrepZ start) = if start then pos 1 else pos 0
+value_of _ = pos 0
+
+-- the same name and the same angle or start value
+abbrev pub same_kind : Kind → Kind → Bool
+same_kind k l = nat_eq (place_of (name_of k)) (place_of (name_of l)) && int_eq (value_of k) (value_of l)
+
+abbrev pub same_option : Option Wire → Option Wire → Bool
+same_option None None = true
+same_option None (Some w) = false
+same_option (Some v) None = false
+same_option (Some v) (Some w) = same_wire v w
+
+-- the same kind on the same wires
+abbrev pub same_gate : Gate → Gate → Bool
+same_gate g h = same_kind g.kind h.kind && (same_wire g.a h.a && (same_option g.b h.b && same_option g.c h.c))
+
+abbrev pub same_call : ℕ → List Wire → ℕ → List Wire → Bool
+same_call callee wires other others = nat_eq callee other && pointwise same_wire wires others
+
+-- an item after another: one item with turns where both are the same gate, or the same call
+abbrev pub joined : Item → Item → List Item
+joined (item.Gate g) (item.Gate h) = if same_gate g h then item.Gates g 2 ∷ [] else item.Gate g ∷ item.Gate h ∷ []
+joined (item.Gates g n) (item.Gate h) = if same_gate g h then item.Gates g (n + 1) ∷ [] else item.Gates g n ∷ item.Gate h ∷ []
+joined (item.Call c ws) (item.Call d vs) = if same_call c ws d vs then item.Calls c ws 2 ∷ [] else item.Call c ws ∷ item.Call d vs ∷ []
+joined (item.Calls c ws n) (item.Call d vs) = if same_call c ws d vs then item.Calls c ws (n + 1) ∷ [] else item.Calls c ws n ∷ item.Call d vs ∷ []
+joined i j = i ∷ j ∷ []
+
+-- a folded list with one more item, which joins the last one where it can
+abbrev pub with_folded : List Item → Item → List Item
+with_folded [] j = j ∷ []
+with_folded (i ∷ []) j = joined i j
+with_folded (i ∷ k ∷ items) j = i ∷ with_folded (k ∷ items) j
+
+-- each longest run of equal gates, or of equal calls, as one item with turns
+abbrev pub folded : List Item → List Item
+folded items = fold with_folded [] items
+
+abbrev pub folded_module : Module → Module
+folded_module m = record m { items = folded m.items }
+
+abbrev pub folded_modules : List Module → List Module
+folded_modules modules = map folded_module modules

@@ -1,0 +1,78 @@
+-- The kind of an expression: `int` or `double`, for a map of names to kinds.
+use Rattle.std.specs.Prelude.{ℕ, ◌≡◌, List, Option, Some, None}
+use Rattle.sc_syntax.specs.declared.kind.Kind.{Kind}
+use Rattle.sc_syntax.specs.declared.kind.Kind.TheVariants.{Number}
+use Rattle.sc_syntax.specs.declared.tree.BinOp.{BinOp}
+use Rattle.sc_syntax.specs.declared.tree.BinOp.TheVariants as op
+use Rattle.sc_syntax.specs.declared.tree.UnOp.{UnOp}
+use Rattle.sc_syntax.specs.declared.tree.UnOp.TheVariants as un
+use Rattle.sc_syntax.specs.declared.tree.NumSort.{NumSort}
+use Rattle.sc_syntax.specs.declared.tree.NumSort.TheVariants as num
+use Rattle.sc_syntax.specs.declared.tree.Expr.{Expr}
+use Rattle.sc_syntax.specs.declared.tree.Node.{Node, Int, Decimal, Name, Index', Paren', Unary', Chain', Pick', Row_of-Link, end_of-Link, more_of-Link}
+
+-- what each known name stands for
+abbrev pub Kinds : Type 0
+Kinds = List ℕ → Option Kind
+
+-- a name that stands for a number has a kind, and no other has
+abbrev pub number_kind : Option Kind → Option NumSort
+number_kind (Some (Number sort)) = Some sort
+number_kind _ = None
+
+infixl 10 ◌>>=◌
+abbrev pub ◌>>=◌ : {A B : Type 0} → Option A → (A → Option B) → Option B
+Some x >>= f = f x
+None >>= f = None
+
+-- of two operands, a double makes the other one a double
+abbrev pub wider : NumSort → NumSort → NumSort
+wider num.Int num.Int = num.Int
+wider _ _ = num.Double
+
+-- what is there for two ints alone
+abbrev pub both_int : NumSort → NumSort → Option NumSort
+both_int num.Int num.Int = Some num.Int
+both_int _ _ = None
+
+-- the kind of an operation on operands of these kinds, if it may be done
+abbrev pub kind_of_operation : BinOp → NumSort → NumSort → Option NumSort
+kind_of_operation op.Add a b = Some (wider a b)
+kind_of_operation op.Sub a b = Some (wider a b)
+kind_of_operation op.Mul a b = Some (wider a b)
+kind_of_operation op.Div a b = Some (wider a b)
+kind_of_operation op.Rem a b = both_int a b
+kind_of_operation op.Shl a b = both_int a b
+kind_of_operation op.Shr a b = both_int a b
+kind_of_operation _ a b = Some num.Int
+
+abbrev pub kind_of_unary : UnOp → NumSort → NumSort
+kind_of_unary un.Not a = num.Int
+kind_of_unary _ a = a
+
+-- a chain groups from the left; the branches of `?:` are operands of each other
+abbrev mutual
+  pub kind_of_node : Kinds → Node → Option NumSort
+  kind_of_node kinds (Int n) = Some num.Int
+  kind_of_node kinds (Decimal d) = Some num.Double
+  kind_of_node kinds (Name t) = number_kind (kinds t)
+  kind_of_node kinds (Index' t b p n) = None
+  kind_of_node kinds (Paren' b p n) = kind_of_node kinds n
+  kind_of_node kinds (Unary' op b p n) = kind_of_node kinds n >>= λ a. Some (kind_of_unary op a)
+  kind_of_node kinds (Chain' b p n shape row) = kind_of_node kinds n >>= kind_of_row kinds row
+  kind_of_node kinds (Pick' b1 p1 n1 b2 p2 n2 b3 p3 n3) =
+      kind_of_node kinds n1 >>= λ test. kind_of_node kinds n2 >>= λ a. kind_of_node kinds n3 >>= λ b. Some (wider a b)
+
+  -- of a chain whose operands so far have a kind
+  pub kind_of_row : {m : _} → Kinds → Row_of-Link m → NumSort → Option NumSort
+  kind_of_row kinds end_of-Link a = Some a
+  kind_of_row kinds (more_of-Link op at p n rest) a =
+      kind_of_node kinds n >>= λ b. kind_of_operation op a b >>= kind_of_row kinds rest
+
+-- the kind of an expression, if it is well typed as a number
+abbrev pub kind_of_expr : Kinds → Expr → Option NumSort
+kind_of_expr kinds e = kind_of_node kinds e.node
+
+-- the expression is well typed as a number
+abbrev pub IsNumber : Kinds → Expr → Type 0
+IsNumber kinds e = (sort : NumSort) × (kind_of_expr kinds e ≡ Some sort)

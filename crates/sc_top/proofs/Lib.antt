@@ -1,0 +1,4 @@
+mod BodyLemmas
+mod MakerLemmas
+mod PartLemmas
+mod RunLemmas

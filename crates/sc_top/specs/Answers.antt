@@ -1,0 +1,57 @@
+-- What a request is answered.
+use Rattle.std.specs.Prelude.{◌≡◌, ℕ, ◌<◌, ◌≤◌, ◌==◌, ◌&&◌, not, Bool, true, false, List, [], ◌∷◌, Option, None, Some, nat_eq, codes, length, if◌then◌else◌}
+use Rattle.std.specs.Str.{bytes_eq}
+use Rattle.sc_gate.specs.Lines.{flat_text}
+use Rattle.sc_syntax.specs.Lexing.{IsLexed}
+use Rattle.sc_syntax.specs.declared.Token.{Token}
+use Rattle.sc_top.specs.First.{Made, IsFirstForm}
+use Rattle.sc_top.specs.declared.request.Request.{Request}
+use Rattle.sc_top.specs.declared.request.Request.TheVariants.{Flat}
+
+-- a name of a file: `-`, the empty word, or a word that does not begin with `-`
+abbrev pub is_file : List ℕ → Bool
+is_file [] = true
+is_file (c ∷ []) = true
+is_file (c ∷ d ∷ rest) = not (c == 45)
+
+-- the file that `flat FILE` asks for
+abbrev pub request : List (List ℕ) → Option (List ℕ)
+request (mode ∷ file ∷ []) = if bytes_eq (codes "flat") mode && is_file file then Some file else None
+request words = None
+
+abbrev pub file_of : Request → List ℕ
+file_of (Flat file) = file
+
+-- the most bytes of a source
+abbrev pub most_bytes : ℕ
+most_bytes = 16777216
+
+-- a source of the first form: its tokens are, and make these qubits and gates
+pub record IsFirstSource (source : List ℕ) (made : Made) : Type 0 where
+  pub tokens : List Token
+  pub lexed : IsLexed source tokens
+  pub form : IsFirstForm source tokens made
+
+-- the words ask for a text that is held, and this is said of it
+pub record Asks (held : List ℕ → Option (List ℕ)) (words : List (List ℕ)) (Says : List ℕ → Type 0) : Type 0 where
+  pub name : List ℕ
+  pub text : List ℕ
+  pub asked : request words ≡ Some name
+  pub holds : held name ≡ Some text
+  pub says : Says text
+
+-- the text has more bytes than a source may have
+abbrev pub IsTooLarge : List ℕ → Type 0
+IsTooLarge text = most_bytes < length text
+
+-- the text is a source, but not of the first form
+pub record IsUnbuilt (text : List ℕ) : Type 0 where
+  pub within : length text ≤ most_bytes
+  pub other : (made : Made) → IsFirstSource text made → ⊥
+
+-- the text is a source of the first form, and its flat text was written
+pub record IsWritten (Written : List ℕ → Type 0) (text : List ℕ) : Type 0 where
+  pub made : Made
+  pub within : length text ≤ most_bytes
+  pub first : IsFirstSource text made
+  pub written : Written (flat_text made.qubits 0 made.gates)

@@ -1,0 +1,9 @@
+pub mod Answers
+pub mod Arrays
+pub mod Codes
+pub mod Fault
+pub mod First
+pub mod Kinds
+pub mod Lexemes
+pub mod Made
+pub mod Parts

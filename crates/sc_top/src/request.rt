@@ -1,0 +1,68 @@
+//! What the words ask for.
+ghost use Rattle.std.specs.Prelude.{◌≡◌, ◌↔◌, map, Some, None, IfOk, IsErrOf};
+ghost use Rattle.std.specs.Rc.{rc_str_bytes};
+ghost use Rattle.sc_top.specs.Answers.{request, is_file, file_of};
+
+use sc_base::{Memory, Text};
+use std::alloc::Global;
+use std::rc::RcStr;
+
+/// What the program is asked to do.
+#[derive(Debug, Drop)]
+pub enum Request {
+    /// The flat text of the source under a name.
+    Flat { file: Text },
+}
+
+impl Request {
+    /// The name of the file that is asked for.
+    pub(crate) fn file(&self) -> &Text
+        ensures { result.now ≡ file_of self.now }
+    {
+        match self {
+            Request::Flat { file } => file,
+        }
+    }
+}
+
+/// Why words have no request.
+#[derive(Clone, Copy, Debug, PartialEq, Eq)]
+pub enum WordsFault {
+    /// The words ask for nothing that the program does.
+    Usage,
+    Memory,
+}
+
+impl From<Memory> for WordsFault {
+    ghost use Rattle.sc_top.specs.declared.request.WordsFault.TheVariants.{Memory as OutOfMemory};
+
+    ghost from_gives = { λ _ e. e ≡ OutOfMemory };
+
+    fn from(_: Memory) -> Self {
+        WordsFault::Memory
+    }
+}
+
+/// Whether a word may name a file: `-`, the empty word, and every word that does not begin with `-`.
+fn may_name(word: &str) -> bool
+    ensures { result ≡ is_file word.now }
+{
+    match word.as_bytes() {
+        [] | [_] => true,
+        [first, ..] => *first != b'-',
+    }
+}
+
+/// The request of the words after the program's name. `Usage` comes exactly where they are not `flat FILE`.
+pub fn read_words(alloc: Global, words: &[RcStr]) -> Result<Request, WordsFault>
+    ensures asked { IfOk result (λ r. request (map rc_str_bytes words.now) ≡ Some (file_of r)) }
+    ensures usage { IsErrOf result WordsFault.Usage ↔ (request (map rc_str_bytes words.now) ≡ None) }
+{
+    match words {
+        [mode, file] if mode.as_str() == "flat" && may_name(file.as_str()) => {
+            let file = Text::from_bytes(alloc, file.as_str().as_bytes())?;
+            Ok(Request::Flat { file })
+        }
+        _ => Err(WordsFault::Usage),
+    }
+}

@@ -1,0 +1,5 @@
+mod ChainLemmas
+mod EntryLemmas
+pub mod KindLaws
+pub mod ScopeLaws
+mod ScopeLemmas

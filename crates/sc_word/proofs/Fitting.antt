@@ -1,0 +1,72 @@
+-- A typed tree of a source fits its widths.
+use Rattle.std.proofs.Common.{◌≡◌, ℕ, zero, suc, ◌+◌, ◌<◌, ◌≤◌, Bool, List, [], ◌∷◌, ◌++◌, length, map, get_or, Option, Some, None, refl, sym, ap, ◌∙◌, subst, arith}
+use Rattle.std.specs.Prelude.{slice_index}
+use Rattle.std.proofs.lemmas.List.Quantifiers.{position-Some}
+use Rattle.std.proofs.lemmas.List.{map-append}
+use Rattle.sc_syntax.specs.declared.Bind.{Bind}
+use Rattle.sc_syntax.specs.declared.WordParam.{WordParam}
+use Rattle.sc_syntax.specs.declared.WordOp.{WordOp}
+use Rattle.sc_syntax.specs.declared.WordExpr.{WordExpr}
+use Rattle.sc_syntax.specs.declared.WordNode as source
+use Rattle.sc_syntax.specs.declared.WordNode.{WordNode, Row_of-WordLink, end_of-WordLink, more_of-WordLink}
+use Rattle.sc_word.specs.declared.tree.TypedExpr.{TypedExpr}
+use Rattle.sc_word.specs.declared.tree.TypedNode.{TypedNode, Literal, Word, Not', Chain', Shift', Pick', Ext', Low', Row_of-TypedLink, end_of-TypedLink, more_of-TypedLink}
+use Rattle.sc_word.specs.Words.{Words, Named, named, number_of, has_name, width_at, widths_of, IsWidth, AreWidths}
+use Rattle.sc_word.specs.Forms.{amount, op_width}
+use Rattle.sc_word.specs.Checks.{param_word}
+use Rattle.sc_word.specs.Typed.{TypesAs, TypesRow, TypesExpr, TypesBinds, OpFits}
+use Rattle.sc_word.specs.Fits.{TypedAs, TypedRow, TypedExprAs, TypedAll}
+
+width_there : (ws : Words) (i : ℕ) → i < length ws → (i < length (widths_of ws)) × (slice_index (widths_of ws) i ≡ width_at ws i)
+width_there [] i h = absurd (omega arith)
+width_there (w ∷ ws) zero h = (omega arith, refl)
+width_there (w ∷ ws) (suc i) h = (let r = width_there ws i (omega arith) in (omega (arith, r.0), r.1))
+
+mutual
+  pub typed_as : (ws : Words) (n : WordNode) (w : ℕ) (t : TypedNode) → TypesAs ws n w t → TypedAs (widths_of ws) w t
+  typed_as ws (source.Int m) w (Literal v) h = h.1
+  typed_as ws (source.Name name) w (Word i) h =
+      let there = width_there ws i (position-Some (has_name name) ws i (named [] 0) h.0).0 in
+      (there.0, there.1 ∙ h.1)
+  typed_as ws (source.Paren' b p n) w t h = typed_as ws n w t h
+  typed_as ws (source.Not' b p n) w (Not' c x e) h = (typed_as ws n x e h.0, h.1)
+  typed_as ws (source.Chain' b p n shape row) w (Chain' c x e outline links) h = (typed_as ws n x e h.0, typed_row ws row x w links h.1)
+  typed_as ws (source.Shift' b p n links) w (Shift' c x e shifts) h = (typed_as ws n x e h.0, h.1)
+  typed_as ws (source.Pick' b1 p1 n1 b2 p2 n2 b3 p3 n3) w (Pick' c1 x1 e1 c2 x2 e2 c3 x3 e3) h =
+      (typed_as ws n1 x1 e1 h.0, h.1, typed_as ws n2 x2 e2 h.2, h.3, typed_as ws n3 x3 e3 h.4, h.5)
+  typed_as ws (source.Ext' b p n s) w (Literal v) h = h.2
+  typed_as ws (source.Ext' b p n s) w (Ext' c x e) h = (typed_as ws n x e h.0, h.3, h.4)
+  typed_as ws (source.Low' b p n s) w (Low' c x e) h = (typed_as ws n x e h.0, h.2, h.3)
+  typed_as ws _ w _ h = absurd h
+
+  pub typed_row : {m k : _} (ws : Words) (row : Row_of-WordLink m) (x w : ℕ) (links : Row_of-TypedLink k) → TypesRow ws row x w links → TypedRow (widths_of ws) x w links
+  typed_row ws end_of-WordLink x w end_of-TypedLink h = h
+  typed_row ws (more_of-WordLink o at p n rest) x w (more_of-TypedLink q y e links) h =
+      (typed_as ws n y e h.1, h.2, subst (λ (k : WordOp). OpFits k x) h.0 h.3, subst (λ (k : WordOp). TypedRow (widths_of ws) (op_width k x) w links) h.0 (typed_row ws rest (op_width o x) w links h.4))
+  typed_row ws end_of-WordLink x w (more_of-TypedLink q y e links) h = absurd h
+  typed_row ws (more_of-WordLink o at p n rest) x w end_of-TypedLink h = absurd h
+
+widths_push : (ws : Words) (x : Named) → widths_of (ws ++ x ∷ []) ≡ widths_of ws ++ x.width ∷ []
+widths_push ws x = map-append (λ (w : Named). w.width) ws (x ∷ [])
+
+pub typed_all : (ws : Words) (bs : List Bind) (result : WordExpr) (ts : List TypedExpr) (t : TypedExpr) → TypesBinds ws bs result ts t → TypedAll (widths_of ws) ts t
+typed_all ws [] result [] t h = typed_as ws result.node t.width t.node h
+typed_all ws (b ∷ bs) result (u ∷ ts) t h =
+    (typed_as ws b.value.node u.width u.node h.0,
+      subst (λ (l : List ℕ). TypedAll l ts t) (widths_push ws (named b.name.text u.width)) (typed_all (ws ++ named b.name.text u.width ∷ []) bs result ts t h.1))
+typed_all ws [] result (u ∷ ts) t h = absurd h
+typed_all ws (b ∷ bs) result [] t h = absurd h
+
+pub param_widths : (ps : List WordParam) → widths_of (map param_word ps) ≡ map (λ p. amount p.width) ps
+param_widths [] = refl
+param_widths (p ∷ ps) = ap (λ l. amount p.width ∷ l) (param_widths ps)
+
+pub binds_length : (ws : Words) (bs : List Bind) (result : WordExpr) (ts : List TypedExpr) (t : TypedExpr) → TypesBinds ws bs result ts t → length ts ≡ length bs
+binds_length ws [] result [] t h = refl
+binds_length ws (b ∷ bs) result (u ∷ ts) t h = ap suc (binds_length (ws ++ named b.name.text u.width ∷ []) bs result ts t h.1)
+binds_length ws [] result (u ∷ ts) t h = absurd h
+binds_length ws (b ∷ bs) result [] t h = absurd h
+
+pub areWidths-push : (ws : Words) (x : Named) → AreWidths (widths_of ws) → IsWidth x.width → AreWidths (widths_of (ws ++ x ∷ []))
+areWidths-push [] x a h = (h, tt)
+areWidths-push (w ∷ ws) x a h = (a.0, areWidths-push ws x a.1 h)

@@ -1,0 +1,8 @@
+pub mod Bodying
+pub mod Bounding
+pub mod Chaining
+pub mod Faulting
+pub mod Fitting
+pub mod Naming
+pub mod Operating
+pub mod TypedRows

@@ -1,0 +1,17 @@
+//! Classical functions: names, widths and typed trees.
+#![tactic(auto)]
+
+mod chain;
+mod form;
+mod function;
+mod operand;
+mod rules;
+mod scratch;
+mod tree;
+mod typed_fn;
+mod walk;
+mod words;
+
+pub use function::typed;
+pub use tree::{TypedExpr, TypedLink, TypedNode, WordFault};
+pub use typed_fn::TypedFn;
