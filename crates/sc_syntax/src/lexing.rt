@@ -66,9 +66,11 @@ fn fault_of(kind: PieceKind, place: Place) -> LexFault
         PieceKind::OpenComment => LexFault::OpenComment(place),
         PieceKind::Number => LexFault::BadNumber(place),
         PieceKind::Directive => LexFault::BadDefine(place),
-        PieceKind::Space | PieceKind::LineComment | PieceKind::BlockComment | PieceKind::Word | PieceKind::Sign => {
-            LexFault::BadByte(place)
-        }
+        PieceKind::Space
+        | PieceKind::LineComment
+        | PieceKind::BlockComment
+        | PieceKind::Word
+        | PieceKind::Sign => { LexFault::BadByte(place) }
     }
 }
 
@@ -142,7 +144,7 @@ fn take_piece<'a>(
 ///
 /// White space and comments are passed over. A directive `#define` gives a name tokens for which it stands; a later
 /// use of the name has the place of the use. Lines and columns count from 1, columns in bytes. The first fault in
-/// reading order is answered.
+/// reading order is answered, or `Memory` where no memory is left.
 pub fn lex(alloc: Global, source: &[u8]) -> Result<Tokens, LexFault>
     requires { length source.now ≤ 16_777_216 }
     ensures tokens { IfOk result (IsLexed source.now) }

@@ -9,6 +9,8 @@ mod kind;
 mod lexing;
 mod piece;
 mod reading;
+#[cfg(test)]
+mod tests;
 mod token;
 mod tree;
 
