@@ -2,9 +2,13 @@
 use Rattle.std.specs.Prelude.{◌≡◌, ℕ, ◌<◌, ◌≤◌, ◌==◌, ◌&&◌, not, Bool, true, false, List, [], ◌∷◌, Option, None, Some, nat_eq, codes, length, if◌then◌else◌}
 use Rattle.std.specs.Str.{bytes_eq}
 use Rattle.sc_gate.specs.Lines.{flat_text}
-use Rattle.sc_syntax.specs.Lexing.{IsLexed}
+use Rattle.sc_syntax.specs.Lexing.{IsLexed, HasFault}
+use Rattle.sc_syntax.specs.declared.LexFault.{LexFault}
 use Rattle.sc_syntax.specs.declared.Token.{Token}
+use Rattle.sc_top.specs.Fault.{token_fault}
 use Rattle.sc_top.specs.First.{Made, IsFirstForm}
+use Rattle.sc_top.specs.declared.fault.Fault.{Fault}
+use Rattle.sc_top.specs.declared.fault.Fault.TheVariants.{Usage, ReadFault, SourceTooLarge, Tokens, Unbuilt, Memory, WriteFault}
 use Rattle.sc_top.specs.declared.request.Request.{Request}
 use Rattle.sc_top.specs.declared.request.Request.TheVariants.{Flat}
 
@@ -44,10 +48,19 @@ pub record Asks (held : List ℕ → Option (List ℕ)) (words : List (List ℕ)
 abbrev pub IsTooLarge : List ℕ → Type 0
 IsTooLarge text = most_bytes < length text
 
--- the text is a source, but not of the first form
+-- the text is a source whose tokens have this fault
+pub record IsMistaken (fault : Fault) (text : List ℕ) : Type 0 where
+  pub within : length text ≤ most_bytes
+  pub mistake : LexFault
+  pub has : HasFault text mistake
+  pub is : fault ≡ token_fault mistake
+
+-- the text is a source that has tokens, but not of the first form
 pub record IsUnbuilt (text : List ℕ) : Type 0 where
   pub within : length text ≤ most_bytes
-  pub other : (made : Made) → IsFirstSource text made → ⊥
+  pub tokens : List Token
+  pub lexed : IsLexed text tokens
+  pub other : (made : Made) → IsFirstForm text tokens made → ⊥
 
 -- the text is a source of the first form, and its flat text was written
 pub record IsWritten (Written : List ℕ → Type 0) (text : List ℕ) : Type 0 where
@@ -55,3 +68,14 @@ pub record IsWritten (Written : List ℕ → Type 0) (text : List ℕ) : Type 0 
   pub within : length text ≤ most_bytes
   pub first : IsFirstSource text made
   pub written : Written (flat_text made.qubits 0 made.gates)
+
+-- Why a request has this fault. `NoRequest` says that the words ask for nothing, `Text Says` that the text they ask
+-- for is told and `Says` is said of it, and the other two that a count of faults rose.
+abbrev pub Cause : Type 0 → ((List ℕ → Type 0) → Type 0) → Type 0 → Type 0 → Fault → Type 0
+Cause NoRequest Text ShelfRose OutRose Usage = NoRequest
+Cause NoRequest Text ShelfRose OutRose ReadFault = ShelfRose
+Cause NoRequest Text ShelfRose OutRose SourceTooLarge = Text IsTooLarge
+Cause NoRequest Text ShelfRose OutRose (Tokens fault place) = Text (IsMistaken (Tokens fault place))
+Cause NoRequest Text ShelfRose OutRose Unbuilt = Text IsUnbuilt
+Cause NoRequest Text ShelfRose OutRose Memory = Unit {0}
+Cause NoRequest Text ShelfRose OutRose WriteFault = OutRose

@@ -1,42 +1,27 @@
 //! The top call.
-ghost use Rattle.std.specs.Prelude.{◌≡◌, ◌≢◌, ◌≤◌, ◌⊎◌, ◌↔◌, ℕ, List, map, length, true, false, IsTrue, Some, None, OnOk, OnErr, IfOk, IsErrOf, Err};
+ghost use Rattle.std.specs.Prelude.{◌≡◌, ◌≢◌, ◌≤◌, ◌⊎◌, ◌↔◌, ℕ, List, map, length, true, false, IsTrue, Some, None, OnOk, OnErr, IfOk, IfErr, IsErrOf, Err};
 ghost use Rattle.std.specs.Rc.{rc_str_bytes};
 ghost use Rattle.sc_base.specs.Causes.{Rose, Stood, HasCause};
 ghost use Rattle.sc_base.specs.Output.{Wrote, WrotePrefix};
 ghost use Rattle.sc_gate.specs.Lines.{flat_text};
-ghost use Rattle.sc_top.specs.Answers.{request, file_of, most_bytes, IsFirstSource, Asks, IsTooLarge, IsUnbuilt, IsWritten};
+ghost use Rattle.sc_top.specs.Answers.{request, most_bytes, IsFirstSource, Asks, IsWritten, Cause};
 ghost use Rattle.sc_top.specs.Fault.{status_of, fault_line, Tells};
 ghost use Rattle.sc_top.specs.First.{Made};
 ghost use Rattle.sc_top.specs.declared.fault.Fault.{Fault as AnyFault};
 
-use crate::fault::Fault;
+use crate::fault::{Fault, lexing_fault};
 use crate::form::first_form;
 use crate::maker::FormFault;
 use crate::request::{WordsFault, read_words};
 use crate::status::Status;
-use sc_base::{
-    List, ReadAllFault, Shelf, Sink, SureShelf, SureSink, WriteFault, read_all, write_all,
-};
+use sc_base::{List, ReadAllFault, Shelf, Sink, Text, WriteFault, read_all, write_all};
 use sc_gate::{Gate, write_flat};
-use sc_syntax::{LexFault, lex};
+use sc_syntax::lex;
 use std::alloc::Global;
 use std::rc::RcStr;
 
 /// The most bytes of a source.
 const MOST_BYTES: u64 = 16_777_216;
-
-/// The number of qubits and the gates of a source of the first form.
-fn circuit(alloc: Global, source: &[u8]) -> Result<(u32, List<Gate>), FormFault>
-    requires { length source.now ≤ most_bytes }
-    ensures made { IfOk result (λ r. (made : Made) × IsFirstSource source.now made × (made.qubits ≡ r.0) × (made.gates ≡ r.1)) }
-    ensures unbuilt { IsErrOf result FormFault.Unbuilt → (made : Made) → IsFirstSource source.now made → ⊥ }
-{
-    match lex(alloc, source) {
-        Ok(tokens) => first_form(alloc, source, tokens.as_slice()),
-        Err(LexFault::Memory) => Err(FormFault::Memory),
-        Err(LexFault::Unbuilt | LexFault::TooManyTokens(_)) => Err(FormFault::Unbuilt),
-    }
-}
 
 /// Writes the flat text of a circuit, and ends the sink. Takes no memory.
 fn print<O: Sink>(qubits: u32, gates: &[Gate], out: &mut O) -> Result<(), WriteFault>
@@ -51,6 +36,41 @@ fn print<O: Sink>(qubits: u32, gates: &[Gate], out: &mut O) -> Result<(), WriteF
     match out.finish() {
         Ok(()) => Ok(()),
         Err(_) => Err(WriteFault),
+    }
+}
+
+/// The text of a source, at most 16,777,216 bytes of it.
+fn read_source<F: Shelf>(alloc: Global, file: &[u8], shelf: &mut F) -> Result<Text, Fault>
+    ensures held { F.held shelf.new ≡ F.held shelf.old }
+    ensures tells_held { F.tells_held shelf.new ≡ F.tells_held shelf.old }
+    ensures later { F.faults shelf.old ≤ F.faults shelf.new }
+    ensures within { IfOk result (λ text. length text ≤ most_bytes) }
+    ensures whole { IfOk result (λ text. IsTrue (F.tells_held shelf.old) → F.held shelf.old file.now ≡ Some text) }
+    ensures cause { IfErr result (Cause ⊥ (λ Says. IsTrue (F.tells_held shelf.old) → (text : List ℕ) × (F.held shelf.old file.now ≡ Some text) × Says text)
+        (Rose (F.faults shelf.old) (F.faults shelf.new)) ⊥) }
+{
+    match read_all(alloc, shelf, file, MOST_BYTES) {
+        Ok(text) => Ok(text),
+        Err(ReadAllFault::ReadFault) => Err(Fault::ReadFault),
+        Err(ReadAllFault::SourceTooLarge) => Err(Fault::SourceTooLarge),
+        Err(ReadAllFault::Memory) => Err(Fault::Memory),
+    }
+}
+
+/// The number of qubits and the gates of a source of the first form.
+fn circuit(alloc: Global, source: &[u8]) -> Result<(u32, List<Gate>), Fault>
+    requires { length source.now ≤ most_bytes }
+    ensures made { IfOk result (λ r. (made : Made) × IsFirstSource source.now made × (made.qubits ≡ r.0) × (made.gates ≡ r.1)) }
+    ensures cause { IfErr result (Cause ⊥ (λ Says. Says source.now) ⊥ ⊥) }
+{
+    let tokens = match lex(alloc, source) {
+        Ok(tokens) => tokens,
+        Err(fault) => return Err(lexing_fault(fault)),
+    };
+    match first_form(alloc, source, tokens.as_slice()) {
+        Ok(circuit) => Ok(circuit),
+        Err(FormFault::Unbuilt) => Err(Fault::Unbuilt),
+        Err(FormFault::Memory) => Err(Fault::Memory),
     }
 }
 
@@ -75,25 +95,11 @@ fn flat<F: Shelf, O: Sink>(
     ensures open { OnErr result (O.is_ended out.new ≡ false) }
     ensures unchanged { OnErr result (result ≢ Err Fault.WriteFault → out.new ≡ out.old) }
 
-    ensures no_usage { result ≢ Err Fault.Usage }
-    ensures read { IsErrOf result Fault.ReadFault → Rose (F.faults shelf.old) (F.faults shelf.new) }
-    ensures too_large { IsErrOf result Fault.SourceTooLarge → IsTrue (F.tells_held shelf.old) →
-        (text : List ℕ) × (F.held shelf.old file.now ≡ Some text) × IsTooLarge text }
-    ensures unbuilt { IsErrOf result Fault.Unbuilt → IsTrue (F.tells_held shelf.old) →
-        (text : List ℕ) × (F.held shelf.old file.now ≡ Some text) × IsUnbuilt text }
-    ensures write { IsErrOf result Fault.WriteFault → Rose (O.faults out.old) (O.faults out.new) }
+    ensures cause { IfErr result (Cause ⊥ (λ Says. IsTrue (F.tells_held shelf.old) → (text : List ℕ) × (F.held shelf.old file.now ≡ Some text) × Says text)
+        (Rose (F.faults shelf.old) (F.faults shelf.new)) (Rose (O.faults out.old) (O.faults out.new))) }
 {
-    let text = match read_all(alloc, shelf, file, MOST_BYTES) {
-        Ok(text) => text,
-        Err(ReadAllFault::ReadFault) => return Err(Fault::ReadFault),
-        Err(ReadAllFault::SourceTooLarge) => return Err(Fault::SourceTooLarge),
-        Err(ReadAllFault::Memory) => return Err(Fault::Memory),
-    };
-    let (qubits, gates) = match circuit(alloc, text.as_bytes()) {
-        Ok(circuit) => circuit,
-        Err(FormFault::Unbuilt) => return Err(Fault::Unbuilt),
-        Err(FormFault::Memory) => return Err(Fault::Memory),
-    };
+    let text = read_source(alloc, file, shelf)?;
+    let (qubits, gates) = circuit(alloc, text.as_bytes())?;
     match print(qubits, gates.as_slice(), out) {
         Ok(()) => Ok(()),
         Err(_) => Err(Fault::WriteFault),
@@ -115,8 +121,8 @@ fn tell<E: Sink>(err: &mut E, line: &[u8])
 ///
 /// `flat FILE` writes the flat text of the source under FILE to `out`, and ends it. The refusals, in this order:
 /// `Usage` where the words are anything else; `ReadFailed` where the shelf fails; `Limit` where the source has more
-/// than 16,777,216 bytes; `Refused` where the source is not of the first form. `Memory` comes where no memory is
-/// found, before the first byte of output. After a refusal `out` is unchanged. After `WriteFailed`, where the sink
+/// than 16,777,216 bytes; `Refused` or `Limit` where its tokens have a fault, the first one; `Refused` where it is not
+/// of the first form. `Memory` comes where no memory is found, before the first byte of output. After a refusal `out` is unchanged. After `WriteFailed`, where the sink
 /// fails, `out` has a prefix of the text and is not ended. A refusal writes one line to `err` and ends it.
 pub fn run<F: Shelf, O: Sink, E: Sink>(
     alloc: Global,
@@ -144,18 +150,17 @@ pub fn run<F: Shelf, O: Sink, E: Sink>(
     ensures open { result ≢ Status.Done → O.is_ended out.new ≡ false }
     ensures unchanged { result ≢ Status.Done → result ≢ Status.WriteFailed → out.new ≡ out.old }
 
-    // The fault line.
+    // The fault line, and why it came.
     ensures err_unchanged { result ≡ Status.Done → err.new ≡ err.old }
     ensures told { result ≢ Status.Done → (fault : AnyFault) × (result ≡ status_of fault) ×
-        Tells E.tells E.bytes E.is_ended E.faults err.old err.new (fault_line fault) }
+        Tells E.tells E.bytes E.is_ended E.faults err.old err.new (fault_line fault) ×
+        Cause (request (map rc_str_bytes words.now) ≡ None)
+            (λ Says. IsTrue (F.tells_held shelf.old) → Asks (F.held shelf.old) (map rc_str_bytes words.now) Says)
+            (Rose (F.faults shelf.old) (F.faults shelf.new)) (Rose (O.faults out.old) (O.faults out.new)) fault }
 
-    // When each answer comes.
+    // What the counts and the words say of an answer.
     ensures usage { (result ≡ Status.Usage) ↔ (request (map rc_str_bytes words.now) ≡ None) }
     ensures read { result ≡ Status.ReadFailed → Rose (F.faults shelf.old) (F.faults shelf.new) }
-    ensures limit { result ≡ Status.Limit → IsTrue (F.tells_held shelf.old) →
-        Asks (F.held shelf.old) (map rc_str_bytes words.now) IsTooLarge }
-    ensures unbuilt { result ≡ Status.Refused → IsTrue (F.tells_held shelf.old) →
-        Asks (F.held shelf.old) (map rc_str_bytes words.now) IsUnbuilt }
     ensures write { result ≡ Status.WriteFailed → Rose (O.faults out.old) (O.faults out.new) }
     ensures no_verdict { result ≢ Status.NotLegal }
 
@@ -173,6 +178,6 @@ pub fn run<F: Shelf, O: Sink, E: Sink>(
             Err(fault) => fault,
         },
     };
-    tell(err, fault.line());
+    tell(err, fault.line().as_bytes());
     fault.status()
 }
