@@ -1,4 +1,5 @@
 mod BodyLemmas
 mod MakerLemmas
+pub mod OneCircuit
 mod PartLemmas
 mod RunLemmas
