@@ -1,5 +1,5 @@
 //! Gate lines, composed in a small buffer.
-ghost use Rattle.std.specs.Prelude.{◌≡◌, ◌+◌, ◌<◌, ◌≤◌, false, [], ◌∷◌, ◌++◌, length, map, option_to_list, OnOk};
+ghost use Rattle.std.specs.Prelude.{◌≡◌, ◌+◌, ◌<◌, ◌≤◌, false, [], ◌∷◌, ◌++◌, length, map, option_to_list, decimal, OnOk};
 ghost use Rattle.sc_base.specs.Causes.{HasCause};
 ghost use Rattle.sc_base.specs.GateNames.{gate_text};
 ghost use Rattle.sc_base.specs.Output.{Wrote, WrotePrefix};
@@ -13,9 +13,9 @@ use std::marker::Model;
 /// More than the longest gate line.
 const ROOM: usize = 80;
 
-/// A line under way, seen as its bytes.
+/// A short text under way, of at most 80 bytes, seen as its bytes. It takes no memory.
 #[derive(Drop)]
-struct Line {
+pub struct Line {
     bytes: [u8; ROOM],
     len: usize,
 }
@@ -31,7 +31,8 @@ impl Model for Line {
 }
 
 impl Line {
-    fn new() -> Line
+    /// Nothing yet.
+    pub fn new() -> Line
         ensures { result ≡ [] }
     {
         Line {
@@ -40,7 +41,8 @@ impl Line {
         }
     }
 
-    fn push(&mut self, text: &[u8])
+    /// Appends the bytes.
+    pub fn push(&mut self, text: &[u8])
         requires { length self.old + length text.now ≤ 80 }
         ensures { self.new ≡ self.old ++ text.now }
     {
@@ -49,7 +51,18 @@ impl Line {
         self.len = end;
     }
 
-    fn as_bytes(&self) -> &[u8]
+    /// Appends the decimal text of a number.
+    pub fn push_number(&mut self, number: u32)
+        requires { length self.old + 10 ≤ 80 }
+        ensures text { self.new ≡ self.old ++ decimal number }
+        ensures short { length self.new ≤ length self.old + 10 }
+    {
+        let mut buffer = Buffer::new();
+        self.push(buffer.format(number).as_bytes());
+    }
+
+    /// The text so far.
+    pub fn as_bytes(&self) -> &[u8]
         ensures { result.now ≡ self.now }
     {
         &self.bytes[..self.len]
@@ -64,8 +77,7 @@ impl Line {
             Class::Q => b"q".as_slice(),
             Class::C => b"c".as_slice(),
         });
-        let mut buffer = Buffer::new();
-        self.push(buffer.format(wire.number).as_bytes());
+        self.push_number(wire.number);
     }
 
     /// A comma and the operand, where there is one.

@@ -1,74 +1,103 @@
--- The first bytes of a piece tell its kind.
-use Rattle.std.proofs.Common.{ℕ, ◌≡◌, refl, subst, Bool, true, false, cond, List, [], ◌∷◌, ◌++◌, slice_index}
-use Rattle.sc_syntax.specs.declared.piece.Kind.{Kind}
-use Rattle.sc_syntax.specs.declared.piece.Kind.TheVariants.{Space, Word, Number, Sign}
+-- The bytes of a piece tell its kind.
+use Rattle.std.proofs.Common.{ℕ, ◌≡◌, ◌≢◌, refl, sym, ap, ◌∙◌, subst, ◌+◌, ◌<◌, ◌≤◌, Bool, true, false, cond, ◌||◌, ◌&&◌, ◌==◌, List, [], ◌∷◌, ◌++◌, length, slice_index, arith}
+use Rattle.std.proofs.lemmas.Bool.Decides.{nat_tests}
+use Rattle.sc_syntax.specs.declared.piece.PieceKind.{PieceKind}
+use Rattle.sc_syntax.specs.declared.piece.PieceKind.TheVariants.{Space, LineComment, BlockComment, OpenComment, Directive, Word, Number, Sign}
 use Rattle.sc_syntax.specs.declared.token.Mark.{Mark}
 use Rattle.sc_syntax.specs.declared.token.Mark.TheVariants as mark
 use Rattle.sc_syntax.specs.Bytes.{is_letter, is_digit}
-use Rattle.sc_syntax.specs.Marks.{mark_text, is_built}
-use Rattle.sc_syntax.specs.Pieces.{IsPiece}
+use Rattle.sc_syntax.specs.Marks.{mark_text}
+use Rattle.sc_syntax.specs.Pieces.{begins_digit, begins_number, IsPiece}
 use Rattle.sc_syntax.specs.Spaces.{is_white}
 use Rattle.sc_syntax.proofs.Classes.{white_letter, white_digit, letter_digit}
+use Rattle.sc_syntax.proofs.Ends.{has_end, has_no_end, ends_in}
 
-abbrev pub kind_by : List ℕ → Kind
+-- the kind of what begins with `/`
+abbrev pub slash_kind : List ℕ → PieceKind
+slash_kind [] = Sign
+slash_kind (d ∷ ds) = cond (d == 47) LineComment (cond (d == 42) (cond (has_end ds) BlockComment OpenComment) Sign)
+
+abbrev pub kind_by : List ℕ → PieceKind
 kind_by [] = Sign
-kind_by (c ∷ cs) = cond (is_white c) Space (cond (is_letter c) Word (cond (is_digit c) Number Sign))
+kind_by (c ∷ cs) =
+    cond (is_white c) Space (cond (is_letter c) Word (cond (is_digit c) Number (cond (c == 46) Number (cond (c == 35) Directive (cond (c == 47) (slash_kind cs) Sign)))))
 
 pub no : (b : Bool) → (b ≡ true → ⊥) → b ≡ false
 no true h = absurd (h refl)
 no false h = refl
 
--- how a mark begins
-abbrev pub IsSignText : List ℕ → Type 0
-IsSignText text = (is_white (slice_index text 0) ≡ false) × (is_letter (slice_index text 0) ≡ false) × (is_digit (slice_index text 0) ≡ false)
+-- ---- by the first byte
 
-pub mark_begins : (m : Mark) → IsSignText (mark_text m)
-mark_begins mark.PlusPlus = (refl, refl, refl)
-mark_begins _ = (refl, refl, refl)
+pub white_by : (c : ℕ) → is_white c ≡ true → (ds : List ℕ) → kind_by (c ∷ ds) ≡ Space
+white_by c h ds = rw h refl
 
-pub mark_sign : (m : Mark) (text : List ℕ) → mark_text m ≡ text → IsSignText text
-mark_sign m text e = subst IsSignText e (mark_begins m)
+pub letter_by : (c : ℕ) → is_letter c ≡ true → (ds : List ℕ) → kind_by (c ∷ ds) ≡ Word
+letter_by c h ds =
+    let w : is_white c ≡ false = no _ (λ k. white_letter c k h) in
+    rw (w, h) refl
 
-pub kind_is : (k : Kind) (p : List ℕ) → IsPiece k p → k ≡ kind_by p
-kind_is Space [] h = absurd h
-kind_is Space (c ∷ cs) h = rw h.0 refl
-kind_is Word [] h = absurd h
-kind_is Word (c ∷ cs) h =
-    let w : is_white c ≡ false = no _ (λ k. white_letter c k h.0) in
-    rw (w, h.0) refl
-kind_is Number [] h = absurd h
-kind_is Number (c ∷ cs) h =
-    let w : is_white c ≡ false = no _ (λ k. white_digit c k h.0) in
-    let l : is_letter c ≡ false = no _ (λ k. letter_digit c k h.0) in
-    rw (w, l, h.0) refl
-kind_is Sign [] h = refl
-kind_is Sign (c ∷ cs) h =
-    let s = mark_sign h.0 (c ∷ cs) h.2 in
-    let w : is_white c ≡ false = s.0 in
-    let l : is_letter c ≡ false = s.1 in
-    let d : is_digit c ≡ false = s.2 in
-    rw (w, l, d) refl
+digit_by : (c : ℕ) → is_digit c ≡ true → (ds : List ℕ) → kind_by (c ∷ ds) ≡ Number
+digit_by c h ds =
+    let w : is_white c ≡ false = no _ (λ k. white_digit c k h) in
+    let l : is_letter c ≡ false = no _ (λ k. letter_digit c k h) in
+    rw (w, l, h) refl
 
--- a mark that is read so far has one byte
-pub one_byte : (m : Mark) → is_built m ≡ true → (c : ℕ) (cs : List ℕ) → mark_text m ≡ c ∷ cs → cs ≡ []
-one_byte mark.OpenParen b c cs e = cc
-one_byte mark.CloseParen b c cs e = cc
-one_byte mark.OpenBracket b c cs e = cc
-one_byte mark.CloseBracket b c cs e = cc
-one_byte mark.OpenBrace b c cs e = cc
-one_byte mark.CloseBrace b c cs e = cc
-one_byte mark.Semicolon b c cs e = cc
-one_byte mark.Comma b c cs e = cc
-one_byte _ b c cs e = cc
+point_by : (c : ℕ) → (c == 46) ≡ true → (ds : List ℕ) → kind_by (c ∷ ds) ≡ Number
+point_by c h ds =
+    let is : c ≡ 46 = grind (arith, nat_tests) in
+    rw is refl
+
+front : (a b : Bool) → (a && b) ≡ true → a ≡ true
+front true b h = refl
+front false b h = cc
+
+number_by_case : (c : ℕ) (cs : List ℕ) (b : Bool) → is_digit c ≡ b → (is_digit c || (c == 46 && begins_digit cs)) ≡ true → (ds : List ℕ) → kind_by (c ∷ ds) ≡ Number
+number_by_case c cs true e h ds = digit_by c e ds
+number_by_case c cs false e h ds = point_by c (front (c == 46) (begins_digit cs) (let k : (c == 46 && begins_digit cs) ≡ true = rw e at h in k)) ds
+
+pub number_by : (c : ℕ) (cs : List ℕ) → begins_number (c ∷ cs) ≡ true → (ds : List ℕ) → kind_by (c ∷ ds) ≡ Number
+number_by c cs h ds = number_by_case c cs (is_digit c) refl h ds
+
+-- ---- by the piece
+
+mark_kind : (m : Mark) → kind_by (mark_text m) ≡ Sign
+mark_kind mark.PlusPlus = refl
+mark_kind _ = refl
+
+pub kind_is : (fresh : Bool) (k : PieceKind) (p : List ℕ) → IsPiece fresh k p → k ≡ kind_by p
+kind_is fresh Space [] h = absurd h
+kind_is fresh Space (c ∷ cs) h = sym (white_by c h.0 cs)
+kind_is fresh LineComment p h = ap kind_by h.1
+kind_is fresh BlockComment p h =
+    let closed : kind_by (47 ∷ 42 ∷ (h.0 ++ 42 ∷ 47 ∷ [])) ≡ BlockComment = ap (λ b. cond b BlockComment OpenComment) (ends_in h.0) in
+    sym closed ∙ ap kind_by h.1
+kind_is fresh OpenComment p h =
+    let open_one : kind_by (47 ∷ 42 ∷ h.0) ≡ OpenComment = ap (λ b. cond b BlockComment OpenComment) (has_no_end h.0 h.2) in
+    sym open_one ∙ ap kind_by h.1
+kind_is fresh Directive p h = ap kind_by h.1.1
+kind_is fresh Word [] h = absurd h
+kind_is fresh Word (c ∷ cs) h = sym (letter_by c h.0 cs)
+kind_is fresh Number [] h = absurd h
+kind_is fresh Number (c ∷ cs) h = sym (number_by c cs h.0 cs)
+kind_is fresh Sign p h = sym (mark_kind h.0) ∙ ap kind_by h.1
+
+-- a mark has one byte or two
+pub mark_short : (m : Mark) (c d e : ℕ) (es : List ℕ) → mark_text m ≡ c ∷ d ∷ e ∷ es → ⊥
+mark_short mark.PlusPlus c d e es h = cc
+mark_short _ c d e es h = cc
+
+pub mark_some : (m : Mark) → mark_text m ≡ [] → ⊥
+mark_some mark.PlusPlus e = cc
+mark_some _ e = cc
 
 -- every piece has a byte
-pub some_byte : (k : Kind) (p r : List ℕ) → IsPiece k p → p ++ r ≡ [] → ⊥
-some_byte k (c ∷ cs) r h e = cc
-some_byte Space [] r h e = h
-some_byte Word [] r h e = h
-some_byte Number [] r h e = h
-some_byte Sign [] r h e = empty_mark h.0 h.2
-  where
-    empty_mark : (m : Mark) → mark_text m ≡ [] → ⊥
-    empty_mark mark.PlusPlus e = cc
-    empty_mark _ e = cc
+pub some_byte : (fresh : Bool) (k : PieceKind) (p r : List ℕ) → IsPiece fresh k p → p ++ r ≡ [] → ⊥
+some_byte fresh k (c ∷ cs) r h e = cc
+some_byte fresh Space [] r h e = h
+some_byte fresh LineComment [] r h e = cc
+some_byte fresh BlockComment [] r h e = cc
+some_byte fresh OpenComment [] r h e = cc
+some_byte fresh Directive [] r h e = cc
+some_byte fresh Word [] r h e = h
+some_byte fresh Number [] r h e = h
+some_byte fresh Sign [] r h e = mark_some h.0 h.1

@@ -1,6 +1,7 @@
 pub mod Bytes
 pub mod Count
 pub mod Cuts
+pub mod Directives
 pub mod Formed
 pub mod FormedWords
 pub mod Kind

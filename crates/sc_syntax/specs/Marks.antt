@@ -1,5 +1,5 @@
 -- The marks and their spelling.
-use Rattle.std.specs.Prelude.{ℕ, Bool, true, false, List, codes}
+use Rattle.std.specs.Prelude.{ℕ, List, codes}
 use Rattle.sc_syntax.specs.declared.token.Mark.{Mark}
 use Rattle.sc_syntax.specs.declared.token.Mark.TheVariants as mark
 
@@ -43,15 +43,3 @@ mark_text mark.Tilde = codes "~"
 mark_text mark.And = codes "&"
 mark_text mark.Or = codes "|"
 mark_text mark.Caret = codes "^"
-
--- the marks that are read so far
-abbrev pub is_built : Mark → Bool
-is_built mark.OpenParen = true
-is_built mark.CloseParen = true
-is_built mark.OpenBracket = true
-is_built mark.CloseBracket = true
-is_built mark.OpenBrace = true
-is_built mark.CloseBrace = true
-is_built mark.Semicolon = true
-is_built mark.Comma = true
-is_built _ = false

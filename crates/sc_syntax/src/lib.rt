@@ -1,16 +1,22 @@
 //! Tokens and trees of the language.
 #![tactic(auto)]
 
+mod adding;
 mod bytes;
+mod define;
+mod fault;
 mod kind;
 mod lexing;
 mod piece;
 mod reading;
+#[cfg(test)]
+mod tests;
 mod token;
 mod tree;
 
+pub use fault::LexFault;
 pub use kind::Kind;
-pub use lexing::{LexFault, lex};
+pub use lexing::lex;
 pub use token::{Mark, Token, TokenSort, Tokens, Word};
 pub use tree::{
     Act, BinOp, Bind, Call, Callee, Decl, Expr, Init, Link, Measure, Module, Name, Node, NumSort,

@@ -2,21 +2,23 @@
 ghost use Rattle.std.specs.Prelude.{◌≡◌, ◌≢◌, ◌≤◌, ◌<◌, ◌+◌, ◌^◌, length, map, pos, SomeIff, MatchOption};
 ghost use Rattle.std.specs.Str.Parse.{digits_value};
 ghost use Rattle.sc_syntax.specs.Cuts.{IsReading};
-ghost use Rattle.sc_syntax.specs.Pieces.{IsIntText, IsPiece, IsWordSort};
+ghost use Rattle.sc_syntax.specs.Marks.{mark_text};
+ghost use Rattle.sc_syntax.specs.Pieces.{IsIntText, IsNumberSort, IsWordSort};
 ghost use Rattle.sc_syntax.specs.Rows.{row_of};
+ghost use Rattle.sc_syntax.specs.declared.token.Mark.{Mark as Marks};
+ghost use Rattle.sc_syntax.specs.declared.token.TokenSort.{TokenSort as OneSort};
 
-use crate::bytes::is_digit;
-use crate::piece::{Kind, mark_of};
-use crate::token::{TokenSort, Word};
-use sc_base::GateName;
+use crate::piece::{PieceKind, mark_of, mark_of_two};
+use crate::token::{Mark, TokenSort, Word};
+use sc_base::{GateName, read_fixed, read_u64};
 
 /// What a piece is read as.
 #[derive(Clone, Copy, Debug, PartialEq, Eq)]
 pub(crate) enum Reading {
-    /// White space.
+    /// White space or a comment.
     Passed,
     Read(TokenSort),
-    /// A number without a value.
+    /// An open comment, a directive, or a number without a value.
     Unread,
 }
 
@@ -77,36 +79,50 @@ fn word_sort(text: &[u8]) -> TokenSort
 fn int_value(text: &[u8]) -> Option<i64>
     ensures { SomeIff result (IsIntText text.now) (pos (digits_value 10 text.now)) }
 {
-    if text.is_empty() {
+    let value = read_u64(text)?;
+    if value > i64::MAX as u64 {
         return None;
-    }
-    let mut value: u64 = 0;
-    for c in text {
-        if !is_digit(*c) {
-            return None;
-        }
-        let digit = u64::from(*c - b'0');
-        if value > (9_223_372_036_854_775_807 - digit) / 10 {
-            return None;
-        }
-        value = 10 * value + digit;
     }
     Some(value as i64)
 }
 
+/// The sort of a number, if it has a value.
+fn number_sort(text: &[u8]) -> Option<TokenSort>
+    ensures { MatchOption result ((sort : OneSort) → IsNumberSort text.now sort → ⊥) (IsNumberSort text.now) }
+{
+    if let Some(value) = int_value(text) {
+        return Some(TokenSort::Int(value));
+    }
+    match read_fixed(text) {
+        None => None,
+        Some(value) => Some(TokenSort::Decimal(value)),
+    }
+}
+
+/// The mark that a text is.
+fn mark_in(text: &[u8]) -> Option<Mark>
+    ensures { MatchOption result ((m : Marks) → mark_text m ≢ text.now) (λ m. mark_text m ≡ text.now) }
+{
+    match text {
+        [first] => mark_of(*first),
+        [first, second] => mark_of_two(*first, *second),
+        _ => None,
+    }
+}
+
 /// What a piece is read as.
-pub(crate) fn read_piece(kind: Kind, text: &[u8]) -> Reading
-    requires { IsPiece kind text.now }
+pub(crate) fn read_piece(kind: PieceKind, text: &[u8]) -> Reading
     ensures { IsReading kind text.now result }
 {
     match kind {
-        Kind::Space => Reading::Passed,
-        Kind::Word => Reading::Read(word_sort(text)),
-        Kind::Number => match int_value(text) {
+        PieceKind::Space | PieceKind::LineComment | PieceKind::BlockComment => Reading::Passed,
+        PieceKind::OpenComment | PieceKind::Directive => Reading::Unread,
+        PieceKind::Word => Reading::Read(word_sort(text)),
+        PieceKind::Number => match number_sort(text) {
             None => Reading::Unread,
-            Some(value) => Reading::Read(TokenSort::Int(value)),
+            Some(sort) => Reading::Read(sort),
         },
-        Kind::Sign => match mark_of(text[0]) {
+        PieceKind::Sign => match mark_in(text) {
             None => Reading::Unread,
             Some(mark) => Reading::Read(TokenSort::Mark(mark)),
         },

@@ -27,20 +27,18 @@ made_at_end returns lexemes from b [] other is reads allowed = allowed
 made_at_end returns lexemes from b (p ∷ ps) other is reads allowed =
     absurd (ending_no_part returns p _ (sym is ∙ reads ∙ append_assoc (part_lexemes p) (flat_map part_lexemes ps) (ending other)))
 
-mutual
-  -- two readings of a body make the same
-  body_once : (parts : List Part) (returns : Bool) (lexemes : List (TokenSort × List ℕ)) (from a b : Made) → lexemes ≡ flat_map part_lexemes parts ++ ending returns →
-      after_all from parts ≡ Some a → Body lexemes from b → a ≡ b
-  body_once [] returns lexemes from a b reads allowed body =
-      same_made (sym allowed ∙ made_at_end returns lexemes from b body.parts body.returns reads body.reads body.allowed)
-  body_once (p ∷ ps) returns lexemes from a b reads allowed body = part_once p ps returns lexemes from a b (after from p) refl reads allowed body
-
-  part_once : (p : Part) (ps : List Part) (returns : Bool) (lexemes : List (TokenSort × List ℕ)) (from a b : Made) (now : Option Made) → after from p ≡ now →
-      lexemes ≡ flat_map part_lexemes (p ∷ ps) ++ ending returns → option_and_then (λ next. after_all next ps) now ≡ Some a → Body lexemes from b → a ≡ b
-  part_once p ps returns lexemes from a b None makes reads allowed body = absurd (let impossible : None ≡ Some a = allowed in cc)
-  part_once p ps returns lexemes from a b (Some now) makes reads allowed body =
-      let begins = reads ∙ append_assoc (part_lexemes p) (flat_map part_lexemes ps) (ending returns) in
-      body_once ps returns (flat_map part_lexemes ps ++ ending returns) now a b refl allowed (body_less lexemes _ p begins makes body)
+-- two readings of a body make the same
+body_once : (parts : List Part) (returns : Bool) (lexemes : List (TokenSort × List ℕ)) (from a b : Made) → lexemes ≡ flat_map part_lexemes parts ++ ending returns →
+    after_all from parts ≡ Some a → Body lexemes from b → a ≡ b
+body_once [] returns lexemes from a b reads allowed body =
+    same_made (sym allowed ∙ made_at_end returns lexemes from b body.parts body.returns reads body.reads body.allowed)
+body_once (p ∷ ps) returns lexemes from a b reads allowed body =
+    let begins = reads ∙ append_assoc (part_lexemes p) (flat_map part_lexemes ps) (ending returns) in
+    elim (after from p) as (λ made. after from p ≡ made → option_and_then (λ next. after_all next ps) made ≡ Some a → a ≡ b) [
+      None ↦ λ makes so. absurd (let impossible : None ≡ Some a = so in cc)
+    | Some now ↦ λ makes so.
+        body_once ps returns (flat_map part_lexemes ps ++ ending returns) now a b refl so (body_less lexemes (flat_map part_lexemes ps ++ ending returns) p begins makes body)
+    ] refl allowed
 
 -- a source of the first form makes one thing
 pub one_circuit : (source : List ℕ) (a b : Made) → IsFirstSource source a → IsFirstSource source b → a ≡ b

@@ -1,38 +1,64 @@
-use Rattle.std.proofs.Common.{◌∙◌, ap, length, take, arith, length-drop}
-use Rattle.sc_syntax.specs.Lexing.{place_after}
-use Rattle.sc_syntax.proofs.Once.{no_tokens}
+use Rattle.std.proofs.Common.{◌≡◌, ◌≢◌, refl, ◌+◌, ◌++◌, ◌-◌, Bool, List, ℕ, [], Ok, Err, IfErr, ◌∙◌, sym, subst, ap, length, drop, take, slice_range, Some, arith, length-drop}
+use Rattle.std.proofs.lemmas.List.Elements.{All-nil}
 use Rattle.std.proofs.lemmas.Result.{err_from_is_err_and}
-use Rattle.sc_syntax.proofs.Turns.{cut_of, passed, turn, ends, stuck, refused, keeps_read}
+use Rattle.sc_syntax.specs.Cuts.{names_of, Stands}
+use Rattle.sc_syntax.specs.Lexing.{place_after, HasFault, IsLexed}
+use Rattle.sc_syntax.specs.Pieces.{IsNext, IsStuck}
+use Rattle.sc_syntax.specs.Spaces.{begins_line}
+use Rattle.sc_syntax.specs.TokenLists.{AreRead, IsRead}
+use Rattle.sc_syntax.specs.declared.token.Token.{Token as OneToken}
+use Rattle.sc_syntax.proofs.CutLemmas.{ends_within}
+use Rattle.sc_syntax.proofs.Once.{no_tokens}
+use Rattle.sc_syntax.proofs.Turns.{GoesOn, begins, turn, ends, stuck, refused, cut_here, stuck_here, found_stands, place_moves}
 use Rattle.sc_syntax.proofs.lexing.lex.Goals as goal
+
+pub loop-at-init : goal.loop-at-init
+loop-at-init c = record {
+  goes_on = rw c.new-tokens.ensures (begins _ _ c.new-names.ensures);
+  place = refl;
+  within = omega arith;
+  read = rw c.new-tokens.ensures (record { each = All-nil (IsRead c.args.source.now); count = omega arith });
+  values = λ text value e. absurd (let n = ap (λ f. f text) (sym c.new-names.ensures) ∙ e in cc);
+}
 
 pub returns-in_default-clause-fault : goal.returns-in_default-clause-fault
 returns-in_default-clause-fault c = λ _.
-    stuck _ _ _ _ c.loop-at.invariant.goes_on c.rest_from-rest.ensures (omega (arith, length-drop c.loop-at.at c.args.source.now, ap length c.rest_from-rest.ensures)) c.in_default.ensures.next
+    stuck _ _ _ _ c.loop-at.at _ c.loop-at.invariant.goes_on c.rest_from.ensures (omega (arith, length-drop c.loop-at.at c.args.source.now, ap length c.rest_from.ensures)) c.loop-at.invariant.place
+    (stuck_here _ _ _ c.loop-at.at _ c.part.ensures c.begins_line-fresh.ensures c.in_default.ensures.next)
 
 pub returns-in_default-clause-none : goal.returns-in_default-clause-none
 returns-in_default-clause-none c = λ _ tokens.
-    no_tokens _ _ tokens (stuck _ _ _ _ c.loop-at.invariant.goes_on c.rest_from-rest.ensures (omega (arith, length-drop c.loop-at.at c.args.source.now, ap length c.rest_from-rest.ensures)) c.in_default.ensures.next)
+    no_tokens _ _ tokens (stuck _ _ _ _ c.loop-at.at _ c.loop-at.invariant.goes_on c.rest_from.ensures (omega (arith, length-drop c.loop-at.at c.args.source.now, ap length c.rest_from.ensures)) c.loop-at.invariant.place
+    (stuck_here _ _ _ c.loop-at.at _ c.part.ensures c.begins_line-fresh.ensures c.in_default.ensures.next))
 
-pub returns-in_err-add_reading-clause-fault : goal.returns-in_err-add_reading-clause-fault
-returns-in_err-add_reading-clause-fault c =
-    let p = err_from_is_err_and c.from_residual.result c.from_residual.ensures.1 in
-    rw (p.1, p.2) (λ n. refused _ _ _ _ _ c.in-Some.piece.len _ _ _ _ c.loop-at.invariant.goes_on (cut_of c.loop-at.invariant.within c.rest_from-rest.ensures c.in-Some.ensures.size.1 c.in-Some.ensures.next) c.loop-at.invariant.place c.read_piece-reading.ensures (c.in_err-add_reading.ensures.err n))
+pub take_piece-requires-clause-stands : goal.take_piece-requires-clause-stands
+take_piece-requires-clause-stands c =
+    let cut = cut_here _ _ c.rest_from.result.now c.loop-at.at c.in-Some.piece.len _ c.in-Some.piece.kind c.loop-at.invariant.within c.part.ensures c.begins_line-fresh.ensures c.rest_from.ensures c.in-Some.ensures.size.1 c.in-Some.ensures.next in
+    found_stands _ _ c.loop-at.at c.in-Some.piece.len _ c.loop-at.place cut c.in-Some.ensures.size.0 c.loop-at.invariant.place
 
-pub returns-in_err-add_reading-clause-none : goal.returns-in_err-add_reading-clause-none
-returns-in_err-add_reading-clause-none c =
+pub returns-in_err-take_piece-clause-fault : goal.returns-in_err-take_piece-clause-fault
+returns-in_err-take_piece-clause-fault c =
+    let cut = cut_here _ _ c.rest_from.result.now c.loop-at.at c.in-Some.piece.len _ c.in-Some.piece.kind c.loop-at.invariant.within c.part.ensures c.begins_line-fresh.ensures c.rest_from.ensures c.in-Some.ensures.size.1 c.in-Some.ensures.next in
     let p = err_from_is_err_and c.from_residual.result c.from_residual.ensures.1 in
-    rw (p.1, p.2) (λ n tokens. no_tokens _ _ tokens (refused _ _ _ _ _ c.in-Some.piece.len _ _ _ _ c.loop-at.invariant.goes_on (cut_of c.loop-at.invariant.within c.rest_from-rest.ensures c.in-Some.ensures.size.1 c.in-Some.ensures.next) c.loop-at.invariant.place c.read_piece-reading.ensures (c.in_err-add_reading.ensures.err n)))
+    rw (p.1, p.2) (λ n. refused _ _ _ _ _ c.loop-at.at c.in-Some.piece.len _ c.loop-at.place _ c.loop-at.invariant.goes_on cut c.loop-at.invariant.place (c.in_err-take_piece.ensures.err n))
+
+pub returns-in_err-take_piece-clause-none : goal.returns-in_err-take_piece-clause-none
+returns-in_err-take_piece-clause-none c =
+    let cut = cut_here _ _ c.rest_from.result.now c.loop-at.at c.in-Some.piece.len _ c.in-Some.piece.kind c.loop-at.invariant.within c.part.ensures c.begins_line-fresh.ensures c.rest_from.ensures c.in-Some.ensures.size.1 c.in-Some.ensures.next in
+    let p = err_from_is_err_and c.from_residual.result c.from_residual.ensures.1 in
+    rw (p.1, p.2) (λ n tokens. no_tokens _ _ tokens (refused _ _ _ _ _ c.loop-at.at c.in-Some.piece.len _ c.loop-at.place _ c.loop-at.invariant.goes_on cut c.loop-at.invariant.place (c.in_err-take_piece.ensures.err n)))
 
 pub loop-at-preserved : goal.loop-at-preserved
 loop-at-preserved c =
-    let cut = cut_of c.loop-at.invariant.within c.rest_from-rest.ensures c.in-Some.ensures.size.1 c.in-Some.ensures.next in
-    let joined = passed _ _ _ _ c.in-Some.piece.len _ cut in
+    let cut = cut_here _ _ c.rest_from.result.now c.loop-at.at c.in-Some.piece.len _ c.in-Some.piece.kind c.loop-at.invariant.within c.part.ensures c.begins_line-fresh.ensures c.rest_from.ensures c.in-Some.ensures.size.1 c.in-Some.ensures.next in
+    let before = take c.loop-at.at c.args.source.now in
     record {
-      goes_on = rw c.in_ok-add_reading.ensures.ok (turn _ _ _ _ _ c.in-Some.piece.len _ _ _ c.loop-at.invariant.goes_on cut c.loop-at.invariant.read.count c.loop-at.invariant.place c.read_piece-reading.ensures c.in_ok-add_reading.ensures.addable);
-      place = c.place_behind-place.ensures (take c.loop-at.at c.args.source.now) c.loop-at.invariant.place ∙ ap place_after joined;
-      within = omega (arith, length-drop c.loop-at.at c.args.source.now, ap length c.rest_from-rest.ensures, c.in-Some.ensures.size.1);
-      read = rw c.in_ok-add_reading.ensures.ok (keeps_read _ _ _ _ _ c.in-Some.piece.len _ _ _ cut c.loop-at.invariant.read c.read_piece-reading.ensures c.in_ok-add_reading.ensures.addable);
+      goes_on = turn _ _ _ _ _ _ _ c.loop-at.at c.in-Some.piece.len _ c.loop-at.invariant.goes_on cut c.in_ok-take_piece.ensures.ok;
+      place = c.place_behind-place.ensures before c.loop-at.invariant.place ∙ ap (λ x. place_after (before ++ x)) c.part-in-loop-at.ensures ∙ ap place_after (place_moves _ _ c.loop-at.at c.in-Some.piece.len _ cut);
+      within = ends_within _ _ _ c.loop-at.at _ c.in-Some.piece.len _ _ cut;
+      read = c.in_ok-take_piece.ensures.read;
+      values = c.in_ok-take_piece.ensures.values;
     }
 
 pub returns-clause-tokens : goal.returns-clause-tokens
-returns-clause-tokens c = ends _ _ _ c.loop-at.invariant.goes_on (omega arith)
+returns-clause-tokens c = ends _ _ _ _ c.loop-at.invariant.goes_on (omega arith)
