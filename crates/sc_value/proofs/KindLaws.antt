@@ -176,11 +176,11 @@ mutual
       leads (value_of_node values p1 n1) _ test.here sort (value_has values p1 n1 test.here test.first)
       (λ t _. tested sort (is_true t) _ _
       (leads (value_of_node values p2 n2) _ yes.here sort (value_has values p2 n2 yes.here yes.first)
-        (λ a same. subst (λ s. Has s (beside (kind_of_node kinds n3) p2 a)) (ap (λ s. wider s no.here) same ∙ some_same no.rest)
-          (subst (λ o. Has (wider (sort_of a) no.here) (beside o p2 a)) (sym no.first) (beside_has no.here p2 a))))
+      (λ a same. subst (λ s. Has s (beside (kind_of_node kinds n3) p2 a)) (ap (λ s. wider s no.here) same ∙ some_same no.rest)
+      (subst (λ o. Has (wider (sort_of a) no.here) (beside o p2 a)) (sym no.first) (beside_has no.here p2 a))))
       (leads (value_of_node values p3 n3) _ no.here sort (value_has values p3 n3 no.here no.first)
-        (λ a same. subst (λ s. Has s (beside (kind_of_node kinds n2) p3 a)) (ap (λ s. wider s yes.here) same ∙ wider_swaps no.here yes.here ∙ some_same no.rest)
-          (subst (λ o. Has (wider (sort_of a) yes.here) (beside o p3 a)) (sym yes.first) (beside_has yes.here p3 a)))))
+      (λ a same. subst (λ s. Has s (beside (kind_of_node kinds n2) p3 a)) (ap (λ s. wider s yes.here) same ∙ wider_swaps no.here yes.here ∙ some_same no.rest)
+      (subst (λ o. Has (wider (sort_of a) yes.here) (beside o p3 a)) (sym yes.first) (beside_has yes.here p3 a)))))
 
   pub row_has : {m : _} (values : Values) (row : Row_of-Link m) (a : Value) (sort : NumSort) → kind_of_row (kinds_of values) row (sort_of a) ≡ Some sort → Has sort (value_of_row values row a)
   row_has values end_of-Link a sort e = record { has = some_same e }
