@@ -153,7 +153,11 @@ fn evaluates_what_is_needed(rt: HostRuntime) -> Result<(), Fail> {
     };
     let half = chain(alloc, pi, BinOp::Div, leaf(int(2)))?;
     assert_eq!(rt; evaluate(&half, &env), Ok(double(1_570_796_326_795)));
-    assert_eq!(rt; eval(&leaf(int(7)), &env), Ok(int(7)));
+    let seven = Expr {
+        place: FIRST,
+        node: Node::Int(7),
+    };
+    assert_eq!(rt; eval(&seven, &env), Ok(int(7)));
     Ok(())
 }
 
