@@ -3,14 +3,12 @@ use Rattle.std.proofs.Common.{◌≡◌, refl, sym, ap, subst, ◌∙◌, ℕ, z
 use Rattle.std.specs.Prelude.{Option, Result, ◌^◌, ℤ, pos, negsuc, ◌+ℤ◌, ◌-ℤ◌, ◌*ℤ◌, neg_ℤ, int_div, int_rem, nat_lt, if◌then◌else◌}
 use Rattle.std.specs.Option.{option_map, unwrap_or}
 use Rattle.sc_base.specs.declared.Place.{Place}
-use Rattle.sc_base.specs.declared.Fixed.{Fixed}
 use Rattle.sc_syntax.specs.declared.BinOp.{BinOp}
 use Rattle.sc_syntax.specs.declared.BinOp.TheVariants as op
 use Rattle.sc_syntax.specs.declared.UnOp.{UnOp}
 use Rattle.sc_syntax.specs.declared.UnOp.TheVariants as un
 use Rattle.sc_syntax.specs.declared.NumSort.{NumSort}
 use Rattle.sc_syntax.specs.declared.NumSort.TheVariants as num
-use Rattle.sc_syntax.specs.declared.Kind.{Kind}
 use Rattle.sc_syntax.specs.declared.Kind.TheVariants.{Number}
 use Rattle.sc_syntax.specs.declared.Expr.{Expr}
 use Rattle.sc_syntax.specs.declared.Node.{Node, Int, Decimal, Name, Index', Paren', Unary', Chain', Pick', Row_of-Link, end_of-Link, more_of-Link}
@@ -20,7 +18,7 @@ use Rattle.sc_value.specs.declared.Value.{Value}
 use Rattle.sc_value.specs.declared.Value.TheVariants as v
 use Rattle.sc_value.specs.declared.EvalFault.{EvalFault}
 use Rattle.sc_value.specs.declared.EvalFault.TheVariants.{Overflow}
-use Rattle.sc_value.specs.Numbers.{◌>>=◌, fits, ranged, int, double, fixed, truth, divided, shifted, floor_div, unit, on_ints, on_doubles, widened, apply, is_true, to_double, beside, unary}
+use Rattle.sc_value.specs.Numbers.{◌>>=◌, ranged, int, double, divided, shifted, floor_div, unit, on_ints, on_doubles, widened, apply, is_true, to_double, beside, unary}
 use Rattle.sc_value.specs.Expressions.{Values, sort_of, kinds_of, step, value_of_node, value_of_row, value_of_expr}
 
 -- the value, if there is one, is of this kind

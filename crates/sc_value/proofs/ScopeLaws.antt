@@ -3,14 +3,14 @@ use Rattle.std.proofs.Common.{◌≡◌, refl, sym, ap, ◌∙◌, ℕ, suc, Boo
 use Rattle.std.proofs.lemmas.Map.Text.{is_eq-slice_cmp}
 use Rattle.std.specs.Prelude.{Option, is_some, if◌then◌else◌}
 use Rattle.std.specs.Option.{option_or, option_map}
-use Rattle.std.specs.Ordering.{nat_cmp, eq_by_cmp}
+use Rattle.std.specs.Ordering.{nat_cmp}
 use Rattle.std.specs.Cmp.Lexicographic.{slice_cmp, nat_list_cmp_total}
 use Rattle.std.proofs.lemmas.Slice.Eq.{bytes_eq-Decides}
 use Rattle.std.specs.FinMap.{get, insert, empty, get-insert, get-empty}
 use Rattle.std.specs.Str.{bytes_eq}
 use Rattle.sc_syntax.specs.declared.Kind.TheVariants.{Number}
 use Rattle.sc_value.specs.declared.Value.{Value}
-use Rattle.sc_value.specs.Expressions.{Values, sort_of, kinds_of}
+use Rattle.sc_value.specs.Expressions.{sort_of, kinds_of}
 use Rattle.sc_value.specs.Scopes.{Scope, Scopes, constant, declared_value, value_of_name, with_declared, with_set, HasKind}
 
 get_inserted : (scope : Scope) (name q : List ℕ) (value : Value)
