@@ -22,6 +22,7 @@ use Rattle.sc_deck.specs.Modules.{Module, body_of, from_earlier}
 use Rattle.sc_deck.specs.Numbers.{Numbers, number_of, with_more, IsThere, AreThere}
 use Rattle.sc_deck.specs.Renaming.{wire, Renames, CanRename}
 use Rattle.sc_deck.specs.Unfolding.{Unfolding, unfolding_at, unfold_item, unfold_items, unfold_module, unfoldings, unfold_on, made_by, repeated, placed, wires_from, of_class}
+use Rattle.sc_deck.proofs.ListLemmas.{slice_get_left, slice_get_last}
 use Rattle.sc_deck.proofs.PlaceLaws.{Sized, Sized-item, Sized-params, placed-map, placed-class}
 use Rattle.sc_deck.proofs.SequenceLaws.{after_events-append, unfolding_at-before, unfolding_at-seam}
 
@@ -176,18 +177,6 @@ module_renamed us before can m body calls f wires next next' classes renames =
     let inner = unfold_items-rename us before can f (params_of m.key) wires (Sized-params wires m.key classes) m.items body.fits calls next next' renames in
     ap (λ (es : List Event). Enter m.key (map f wires) ∷ (es ++ Return m.key ∷ [])) inner
     ∙ ap (λ (es : List Event). Enter m.key (map f wires) ∷ es) (sym (map-append (rename_event f) (unfold_items us m.items wires next) (Return m.key ∷ [])))
-
-slice_get_left : {X : Type 0} (xs ys : List X) (i : ℕ) → i < length xs → slice_get (xs ++ ys) i ≡ slice_get xs i
-slice_get_left [] ys i below = absurd (omega arith)
-slice_get_left (x ∷ xs) ys zero below = refl
-slice_get_left (x ∷ xs) ys (suc i) below = let lt : i < length xs = omega arith in slice_get_left xs ys i lt
-
--- past the list there is one more element
-slice_get_last : {X : Type 0} (xs : List X) (x : X) (i : ℕ) (y : X) → length xs ≤ i → slice_get (xs ++ x ∷ []) i ≡ Some y → (i ≡ length xs) × (x ≡ y)
-slice_get_last [] x zero y late at = (refl, cc)
-slice_get_last [] x (suc i) y late at = cc
-slice_get_last (z ∷ xs) x zero y late at = absurd (omega arith)
-slice_get_last (z ∷ xs) x (suc i) y late at = let le : length xs ≤ i = omega arith in let h = slice_get_last xs x i y le at in (ap suc h.0, h.1)
 
 -- one more unfolding
 each_push : (us : List Unfolding) (before : List Module) → EachRenames us before → (m : Module) (u : Unfolding) → CanRename m u → EachRenames (us ++ u ∷ []) (before ++ m ∷ [])

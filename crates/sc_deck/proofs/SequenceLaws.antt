@@ -93,3 +93,23 @@ unfold_on-last modules m =
     (λ k wires next. unfolding_at (unfoldings-push modules m k) (length modules) wires next)
     ∙ (λ k wires next. unfolding_at (unfoldings modules ++ unfold_module (unfoldings modules) m ∷ []) (sym (length-unfoldings modules) k) wires next)
     ∙ unfolding_at-seam (unfoldings modules) (unfold_module (unfoldings modules) m) []
+
+-- from two beginnings the numbers after events stay as far apart
+apart : (a b : Numbers) (events : List Event) (class : Class) → number_of class (after_events a events) + number_of class b ≡ number_of class (after_events b events) + number_of class a
+apart a b [] class = omega arith
+apart a b (Enter key wires ∷ events) class = apart a b events class
+apart a b (Fresh other n ∷ events) class = let h = apart (with_more other n a) (with_more other n b) events class in by other class h
+  where
+    by : (other class : Class) → number_of class (after_events (with_more other n a) events) + number_of class (with_more other n b) ≡ number_of class (after_events (with_more other n b) events) + number_of class (with_more other n a) →
+      number_of class (after_events (with_more other n a) events) + number_of class b ≡ number_of class (after_events (with_more other n b) events) + number_of class a
+    by Q Q h = omega arith
+    by C C h = omega arith
+    by Q C h = h
+    by C Q h = h
+apart a b (Apply gate ∷ events) class = apart a b events class
+apart a b (Return key ∷ events) class = apart a b events class
+
+-- THE FRESH SUMS ADD: the next numbers after events are those before and the fresh wires of the events
+pub after_events-adds : (next : Numbers) (events : List Event) (class : Class) → number_of class (after_events next events) ≡ number_of class next + number_of class (fresh_in events)
+after_events-adds next events Q = let h = apart next no_wires events Q in omega arith
+after_events-adds next events C = let h = apart next no_wires events C in omega arith
