@@ -56,5 +56,5 @@ lookup_new entries key new = missing key entries (recursion_from_All (λ (m : Mo
 pub last_reach : (entries : List (Key × Entry)) (marks : List Bool) (p : Key × Entry) → KeepsDeck entries marks → Some p ≡ slice_get entries (length entries - 1) → p.1.reach ≡ slice_index (reaches_of (modules_in entries)) (length (modules_in entries) - 1)
 last_reach entries marks p kept at =
     sym (get_or_from_slice_get (map reach_in entries) (length entries - 1) p.1.reach 0
-      (slice_get-map reach_in entries (length entries - 1) ∙ ap (option_map reach_in) (sym at)))
+    (slice_get-map reach_in entries (length entries - 1) ∙ ap (option_map reach_in) (sym at)))
     ∙ (λ i. slice_index (kept.reaches i) (sym (length-map entries module_in) i - 1))

@@ -1,5 +1,5 @@
 -- The reach is the greatest sum of wires along a chain of calls.
-use Rattle.std.proofs.Common.{◌≡◌, ℕ, zero, suc, ◌+◌, ◌-◌, ◌<◌, ◌≤◌, max, List, [], ◌∷◌, ◌++◌, map, length, slice_get, get_or, Option, Some, None, Contains, ◌⊎◌, inl, inr, refl, sym, ap, ◌∙◌, subst, arith, append-nil, append_assoc, length-append}
+use Rattle.std.proofs.Common.{◌≡◌, ℕ, zero, suc, ◌+◌, ◌-◌, ◌<◌, ◌≤◌, List, [], ◌∷◌, ◌++◌, map, length, slice_get, Option, Some, None, Contains, ◌⊎◌, inl, inr, refl, sym, ap, ◌∙◌, subst, arith, append-nil, append_assoc, length-append}
 use Rattle.std.specs.Prelude.{slice_index, IsSomeAnd}
 use Rattle.std.specs.Option.{option_map_or}
 use Rattle.std.specs.List.{AllByRecursion}
@@ -11,7 +11,7 @@ use Rattle.sc_deck.specs.declared.item.Item.{Item}
 use Rattle.sc_deck.specs.declared.item.Item.TheVariants as item
 use Rattle.sc_deck.specs.Bodies.{wires_of}
 use Rattle.sc_deck.specs.CallChains.{Calls, IsCallChain, wires_at, chain_wires, ChainFrom, IsReach}
-use Rattle.sc_deck.specs.Decks.{CallsFit, ItemCallFits, CallEarlier, IsDeck}
+use Rattle.sc_deck.specs.Decks.{CallsFit, CallEarlier, IsDeck}
 use Rattle.sc_deck.specs.Items.{callees_of}
 use Rattle.sc_deck.specs.Modules.{Module, body_of, from_earlier, greatest, greatest_called, reach_over, reaches_of}
 use Rattle.sc_deck.specs.Numbers.{both}
@@ -57,13 +57,14 @@ index_seam (k ∷ numbers) n = index_seam numbers n
 
 solve_push : (before : List Module) (done : List ℕ) → Solved before done → (m : Module) → CallsFit before m.items → Solved (before ++ m ∷ []) (done ++ reach_over done m ∷ [])
 solve_push before done solved m fit = record {
-    long = length-append done (reach_over done m ∷ []) ∙ ap (λ (n : ℕ). n + 1) solved.long ∙ sym (length-append before (m ∷ []));
-    is = λ i k at. is_at i k at (cases_lt i (length before));
-    earlier = λ i k at. earlier_at i k at (cases_lt i (length before))
-  }
+  long = length-append done (reach_over done m ∷ []) ∙ ap (λ (n : ℕ). n + 1) solved.long ∙ sym (length-append before (m ∷ []));
+  is = λ i k at. is_at i k at (cases_lt i (length before));
+  earlier = λ i k at. earlier_at i k at (cases_lt i (length before));
+}
   where
     within : (n : ℕ) → n ≤ length before → n ≤ length done
     within n le = subst (λ (x : ℕ). n ≤ x) (sym solved.long) le
+
     is_at : (i : ℕ) (k : Module) → slice_get (before ++ m ∷ []) i ≡ Some k → (i < length before) ⊎ (length before ≤ i) → slice_index (done ++ reach_over done m ∷ []) i ≡ reach_over (done ++ reach_over done m ∷ []) k
     is_at i k at (inl early) =
         let old : slice_get before i ≡ Some k = sym (slice_get_left before (m ∷ []) i early) ∙ at in
@@ -75,18 +76,19 @@ solve_push before done solved m fit = record {
         ap (slice_index (done ++ reach_over done m ∷ [])) (last.0 ∙ sym solved.long) ∙ index_seam done (reach_over done m)
         ∙ same_over done (reach_over done m ∷ []) m (below_more (length before) (length done) (callees_of m.items) (within (length before) (omega arith)) (callees_below before m.items fit))
         ∙ ap (reach_over (done ++ reach_over done m ∷ [])) last.1
+
     earlier_at : (i : ℕ) (k : Module) → slice_get (before ++ m ∷ []) i ≡ Some k → (i < length before) ⊎ (length before ≤ i) → AllByRecursion (λ j. j < i) (callees_of k.items)
     earlier_at i k at (inl early) = solved.earlier i k (sym (slice_get_left before (m ∷ []) i early) ∙ at)
     earlier_at i k at (inr late) =
         let last = slice_get_last before m i k late at in
         subst (λ (x : Module). AllByRecursion (λ j. j < i) (callees_of x.items)) last.1
-          (below_more (length before) i (callees_of m.items) late (callees_below before m.items fit))
+        (below_more (length before) i (callees_of m.items) late (callees_below before m.items fit))
 
 solve : (before : List Module) (done : List ℕ) (modules : List Module) → Solved before done → CallEarlier before modules → Solved (before ++ modules) (from_earlier reach_over done modules)
 solve before done [] solved calls = subst (λ (ms : List Module). Solved ms done) (sym (append-nil before)) solved
 solve before done (m ∷ modules) solved calls =
     subst (λ (ms : List Module). Solved ms (from_earlier reach_over (done ++ reach_over done m ∷ []) modules)) (append_assoc before (m ∷ []) modules)
-      (solve (before ++ m ∷ []) (done ++ reach_over done m ∷ []) modules (solve_push before done solved m calls.0) calls.1)
+    (solve (before ++ m ∷ []) (done ++ reach_over done m ∷ []) modules (solve_push before done solved m calls.0) calls.1)
 
 pub reaches-Solved : (modules : List Module) → IsDeck modules → Solved modules (reaches_of modules)
 reaches-Solved modules deck = solve [] [] modules (record { long = refl; is = λ i m at. cc; earlier = λ i m at. cc }) deck.calls
@@ -127,8 +129,8 @@ attained numbers [] = inl refl
 attained numbers (k ∷ js) = by (cases_lt (slice_index numbers k) (greatest (map (slice_index numbers) js))) (attained numbers js)
   where
     by : (slice_index numbers k < greatest (map (slice_index numbers) js)) ⊎ (greatest (map (slice_index numbers) js) ≤ slice_index numbers k) →
-      (greatest (map (slice_index numbers) js) ≡ 0) ⊎ ((j : ℕ) × Contains js j × (slice_index numbers j ≡ greatest (map (slice_index numbers) js))) →
-      (greatest (map (slice_index numbers) (k ∷ js)) ≡ 0) ⊎ ((j : ℕ) × Contains (k ∷ js) j × (slice_index numbers j ≡ greatest (map (slice_index numbers) (k ∷ js))))
+        (greatest (map (slice_index numbers) js) ≡ 0) ⊎ ((j : ℕ) × Contains js j × (slice_index numbers j ≡ greatest (map (slice_index numbers) js))) →
+        (greatest (map (slice_index numbers) (k ∷ js)) ≡ 0) ⊎ ((j : ℕ) × Contains (k ∷ js) j × (slice_index numbers j ≡ greatest (map (slice_index numbers) (k ∷ js))))
     by (inr le) rest = inr (k, (zero, (omega arith), refl), sym (max-eq_left le))
     by (inl lt) (inl none) = absurd (omega arith)
     by (inl lt) (inr (j, there, e)) = inr (j, Contains-append_right (k ∷ []) js j there, (let le : slice_index numbers k ≤ greatest (map (slice_index numbers) js) = omega arith in e ∙ sym (max-eq_right le)))
@@ -138,14 +140,16 @@ Reached modules numbers i = (chain : List ℕ) × ChainFrom modules i chain × (
 
 -- a chain from a callee, with the caller in front
 chain_more : (modules : List Module) (numbers : List ℕ) → Solved modules numbers → (i : ℕ) (m : Module) → slice_get modules i ≡ Some m → (j : ℕ) → Contains (callees_of m.items) j → slice_index numbers j ≡ greatest_called numbers m.items →
-  (chain : List ℕ) → ChainFrom modules j chain → chain_wires modules chain ≡ slice_index numbers j → Reached modules numbers i
+    (chain : List ℕ) → ChainFrom modules j chain → chain_wires modules chain ≡ slice_index numbers j → Reached modules numbers i
 unfolding Reached
 chain_more modules numbers solved i m at j there most [] from sum = absurd from.calls
 chain_more modules numbers solved i m at j there most (k ∷ rest) from sum =
     let same : k ≡ j = let s = from.starts in cc in
-    let calls : Calls modules i k = subst (λ o. IsSomeAnd o (λ (x : Module). Contains (callees_of x.items) k)) (sym at) (subst (Contains (callees_of m.items)) (sym same) there) in
-    (i ∷ k ∷ rest, record { calls = (calls, from.calls); starts = refl },
-     (let a = wires_is modules i m at in let b = solved.is i m at in omega arith))
+    let calls : Calls modules i k = subst (λ o. IsSomeAnd o (λ (x : Module). Contains (callees_of x.items) k)) (sym at) (subst (Contains (callees_of m.items)) (sym same) there) in (
+      i ∷ k ∷ rest,
+      record { calls = (calls, from.calls); starts = refl },
+      (let a = wires_is modules i m at in let b = solved.is i m at in omega arith),
+    )
 
 callee_earlier : (i : ℕ) (js : List ℕ) (j : ℕ) → AllByRecursion (λ k. k < i) js → Contains js j → j < i
 callee_earlier i [] j below there = absurd (let h = there.1 in omega arith)
@@ -161,7 +165,7 @@ reached_by modules numbers solved (suc b) i lt there =
     by m.0 m.1 (attained numbers (callees_of m.0.items)) (λ j h t. reached_by modules numbers solved b j h t)
   where
     by : (m : Module) → slice_get modules i ≡ Some m → (greatest_called numbers m.items ≡ 0) ⊎ ((j : ℕ) × Contains (callees_of m.items) j × (slice_index numbers j ≡ greatest_called numbers m.items)) →
-      ((j : ℕ) → j < b → j < length modules → Reached modules numbers j) → Reached modules numbers i
+        ((j : ℕ) → j < b → j < length modules → Reached modules numbers j) → Reached modules numbers i
     by m at (inl none) earlier =
         (i ∷ [], record { calls = there; starts = refl }, (let a = wires_is modules i m at in let c = solved.is i m at in omega arith))
     by m at (inr (j, calls, most)) earlier =
@@ -179,7 +183,7 @@ reach_by_chains modules deck =
     record {
       none = λ e. ap (λ (ns : List ℕ). slice_index ns (length modules - 1)) (nil_from_length (reaches_of modules) (solved.long ∙ e));
       greatest = λ chain from. bound chain from;
-      reached = λ some. reached_by modules (reaches_of modules) solved (length modules) (length modules - 1) (omega arith) (omega arith)
+      reached = λ some. reached_by modules (reaches_of modules) solved (length modules) (length modules - 1) (omega arith) (omega arith);
     }
   where
     bound : (chain : List ℕ) → ChainFrom modules (length modules - 1) chain → chain_wires modules chain ≤ slice_index (reaches_of modules) (length modules - 1)

@@ -209,7 +209,10 @@ fn the_first_wire_that_stands_twice(rt: HostRuntime) -> Result<(), Fail> {
     let far = wire(4_000_000_000);
     assert_eq!(rt; first_repeat(&[]), None);
     assert_eq!(rt; first_repeat(&[wire(1), bit, wire(2)]), None);
-    assert_eq!(rt; first_repeat(&[wire(1), wire(2), wire(2), wire(1)]), Some(2));
+    assert_eq!(rt;
+        first_repeat(&[wire(1), wire(2), wire(2), wire(1)]),
+        Some(2)
+    );
     assert_eq!(rt; first_repeat(&[far, wire(2), far]), Some(2));
     let mut long = Vec::new(rt.alloc());
     for number in 0..65_536 {

@@ -13,8 +13,8 @@ pub returns-in-Some-clause-chains : goal.returns-in-Some-clause-chains
 returns-in-Some-clause-chains c =
     let es = c.self.inside.entries.entries in
     subst (λ (ms : List Module). IsReach ms c.in-Some.entry.now.reach) c.self.view_is
-      (subst (λ (n : ℕ). IsReach (modules_in es) n) (sym (last_reach es c.self.inside.called.items _ c.self.invariant c.in-Some.ensures.entry))
-        (reach_by_chains (modules_in es) c.self.invariant.sound))
+    (subst (λ (n : ℕ). IsReach (modules_in es) n) (sym (last_reach es c.self.inside.called.items _ c.self.invariant c.in-Some.ensures.entry))
+    (reach_by_chains (modules_in es) c.self.invariant.sound))
 
 pub returns-in-None-clause-chains : goal.returns-in-None-clause-chains
 returns-in-None-clause-chains c =
