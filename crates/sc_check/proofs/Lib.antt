@@ -1,0 +1,6 @@
+pub mod Placing
+pub mod Lowest
+pub mod TooEarly
+pub mod MixedKinds
+pub mod WideRegions
+pub mod Breaches

@@ -1,0 +1,16 @@
+pub mod Count
+pub mod Step
+pub mod Fill
+pub mod Schedule
+pub mod Take
+pub mod Free
+pub mod Cut
+pub mod Stands
+pub mod Build
+pub mod Legal
+pub mod Open
+pub mod Once
+pub mod Shops
+pub mod SameKind
+pub mod LastOn
+pub mod TextLemmas

@@ -1,0 +1,11 @@
+pub mod Gates
+pub mod Legal
+pub mod Text
+pub mod WireTables
+pub mod Step
+pub mod Schedule
+pub mod Taken
+pub mod Laws
+pub mod Layout
+pub mod Rounds
+pub mod Board
