@@ -4,3 +4,5 @@ pub mod TooEarly
 pub mod MixedKinds
 pub mod WideRegions
 pub mod Breaches
+pub mod ReaderLemmas
+pub mod LineLemmas

@@ -4,6 +4,9 @@
 mod early;
 mod finding;
 mod places;
+mod reader;
 mod steps;
+mod text_reader;
 
 pub use finding::{Finding, verdict};
+pub use text_reader::{SchedReadFault, read_schedule};

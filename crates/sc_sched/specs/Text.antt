@@ -105,13 +105,18 @@ AllInPlace gates from (line ∷ lines) to = (next : Stage) × InPlace gates from
 abbrev pub joined : List (List ℕ) → List ℕ
 joined lines = flat_map (λ line. line) lines
 
--- the first line, from 1, that is not in its place; where all lines are and the text ends too early, the one after them
-pub record IsBadLine (gates : ℕ) (text : List ℕ) (number : ℕ) : Type 0 where
+-- The first line that is not in its place, in a text that begins at this stage and with the line of this number; where all
+-- lines are in their places and the text ends too early, the one after them.
+pub record IsBadFrom (gates : ℕ) (from : Stage) (text : List ℕ) (first number : ℕ) : Type 0 where
   pub lines : List (List ℕ)
   pub rest : List ℕ
   pub stage : Stage
   pub text_is : text ≡ joined lines ++ rest
-  pub in_place : AllInPlace gates Title lines stage
+  pub in_place : AllInPlace gates from lines stage
   pub not_whole : stage ≡ Over → rest ≢ []
   pub no_line : (line more : List ℕ) (next : Stage) → rest ≡ line ++ more → InPlace gates stage line next → ⊥
-  pub number_is : number ≡ suc (length lines)
+  pub number_is : number ≡ first + length lines
+
+-- the first line of a text, from 1, that is not in its place
+abbrev pub IsBadLine : ℕ → List ℕ → ℕ → Type 0
+IsBadLine gates text number = IsBadFrom gates Title text 1 number
