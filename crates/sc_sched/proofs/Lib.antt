@@ -14,3 +14,6 @@ pub mod Shops
 pub mod SameKind
 pub mod LastOn
 pub mod TextLemmas
+pub mod RegionLemmas
+pub mod OneSchedule
+pub mod Lawful

@@ -8,7 +8,7 @@ use Rattle.std.proofs.lemmas.List.Sums.{sum_by-cons, sum_by-append}
 use Rattle.std.proofs.lemmas.List.Elements.{All-weaker}
 use Rattle.std.proofs.lemmas.List.Folds.{list_any-append}
 use Rattle.sc_sched.specs.Step.{count_below, Shop, size, IsShop, IsStep, IsListed}
-use Rattle.sc_sched.specs.Legal.{Step, stands_in, placed}
+use Rattle.sc_sched.specs.Legal.{times_in, Step, stands_in, placed}
 use Rattle.sc_sched.specs.Schedule.{positions, pieces, of_kind, leads, cut, ready, IsPriority}
 use Rattle.sc_sched.proofs.Count.{and_left, and_right, both}
 use Rattle.sc_sched.proofs.Schedule.{filter_push, not_true}
@@ -64,9 +64,6 @@ count_kept q (suc n) x l = count_push q n x ∙ elim (cases_lt x n) [
       let a : (n == x) ≡ true = eq-eqb n x e in
       rw (count_past q n x g, a, and_yes (q n), zero_plus (cond (q n) 1 0)) (ap (λ (m : ℕ). cond (q m) 1 0) e)) ]
 
--- how often a position stands in a step
-pub times_in : ℕ → Step → ℕ
-times_in x step = sum_by (λ region. count_by (λ y. y == x) region) step
 
 led_or_none : (m : ℕ) (v : Bool) → (v ≡ true → 0 < m) → some_of m * cond v 1 0 ≡ cond v 1 0
 led_or_none zero true h = absurd (omega (arith, h refl))
@@ -86,7 +83,7 @@ one_kind {K} s o v x b =
     omega (arith, a, a', c, c', d, sum_apart g s.kinds h.front h.back (s.kind_of x) h.is)
 
 once_cut : {K : Type 0} (s : Shop K) (o : IsShop s) (c : ℕ → Bool) (x : ℕ) → x < s.gates → times_in x (cut s c) ≡ cond (c x) 1 0
-unfolding cut times_in
+unfolding cut
 once_cut {K} s o c x b =
     let g : K → ℕ = λ kind. cond (c x && s.is kind x) 1 0 in
     sum_flat (λ region. count_by (λ y. y == x) region) (λ l. pieces s.gates (s.room (s.kind_of l)) (of_kind s c (s.kind_of l))) (filter (leads s c) (positions s.gates))

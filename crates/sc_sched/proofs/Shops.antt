@@ -14,18 +14,18 @@ use Rattle.sc_sched.proofs.Take.{not_eq, taking_none}
 use Rattle.sc_sched.proofs.Build.{needed_none, size_none}
 
 -- a number among those below n: what stands before it and after it is another
-record Among (n k : ℕ) : Type 0 where
-  front : List ℕ
-  back : List ℕ
-  is : positions n ≡ front ++ k ∷ back
-  not_front : All (λ j. (k == j) ≡ false) front
-  not_back : All (λ j. (k == j) ≡ false) back
+pub record Among (n k : ℕ) : Type 0 where
+  pub front : List ℕ
+  pub back : List ℕ
+  pub is : positions n ≡ front ++ k ∷ back
+  pub not_front : All (λ j. (k == j) ≡ false) front
+  pub not_back : All (λ j. (k == j) ≡ false) back
 
 all_other : (n k : ℕ) → n ≤ k → All (λ j. (k == j) ≡ false) (positions n)
 all_other zero k l = All-nil _
 all_other (suc n) k l = All-append (λ (j : ℕ). (k == j) ≡ false) (positions n) (n ∷ []) (all_other n k (omega (arith, l))) (All-cons (λ (j : ℕ). (k == j) ≡ false) n [] (not_eq n k (λ e. omega (arith, e, l))) (All-nil _))
 
-among : (n k : ℕ) → k < n → Among n k
+pub among : (n k : ℕ) → k < n → Among n k
 among zero k l = absurd (omega (arith, l))
 among (suc n) k l = elim (cases_lt k n) [
     inl m ↦ (let a : Among n k = among n k m in record {

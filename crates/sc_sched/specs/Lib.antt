@@ -4,6 +4,8 @@ pub mod Text
 pub mod WireTables
 pub mod Step
 pub mod Schedule
+pub mod Ranks
+pub mod PrioritySchedules
 pub mod Taken
 pub mod Laws
 pub mod Layout

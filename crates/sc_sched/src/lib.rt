@@ -3,6 +3,7 @@
 
 pub mod board;
 mod plan;
+mod laws;
 pub mod numbers;
 pub mod order;
 pub mod round;
@@ -11,6 +12,7 @@ mod text;
 pub mod tray;
 mod wires;
 
+pub use laws::{at_most_one_schedule, some_schedule};
 pub use plan::{Plan, Region, Step};
 pub use text::write_schedule;
 pub use wires::WireTable;
