@@ -5,7 +5,9 @@ use Rattle.std.proofs.lemmas.Bool.{false≢true}
 use Rattle.std.proofs.lemmas.List.{length-map}
 use Rattle.std.proofs.lemmas.List.Concat.{flat_map-append}
 use Rattle.std.proofs.lemmas.List.Elements.{All-append}
+use Rattle.std.proofs.Common.{get_or}
 use Rattle.sc_gate.specs.Lines.{number_line}
+use Rattle.sc_sched.specs.declared.plan.Plan.{Plan}
 use Rattle.sc_sched.specs.Legal.{Region, Step}
 use Rattle.sc_sched.specs.Text.{region_line, step_text, IsSize, IsWritable, Stage, Title, Regions, Width, Gates, Steps, Body, Over, BeginsStep, AddsRegion, EndsText, NumberLine, InPlace, AllInPlace, joined, IsBadFrom, IsTextOf}
 use Rattle.sc_check.specs.declared.text_reader.SchedReadFault.{SchedReadFault}
@@ -236,3 +238,10 @@ fault_read gates text t1 t2 t3 t4 body k d g count Memory e1 e2 bk e3 bd e4 bg e
 fault_read gates text t1 t2 t3 t4 body k d g count (BadSchedule line) e1 e2 bk e3 bd e4 bg e5 bc bad =
     after_title gates text t1 line e1 (after_regions gates t1 t2 k line e2 bk.0 bk.1 (after_width gates t2 t3 d line e3 bd.0 bd.1
       (after_gates gates t3 t4 g line e4 bg.0 bg.1 (after_steps gates t4 body count line e5 bc bad))))
+
+-- the positions of a schedule that was read are those of the list
+pub read_in_range : (gates : ℕ) (text : List ℕ) (s : Plan) → IsTextOf gates text s → All (λ step. All (λ region. All (λ x. x < gates) region) step) s.steps
+read_in_range gates text s h = λ i d l j r m p q b. (let g : s.gates ≡ gates = h.gates_are in let w : get_or (get_or (get_or s.steps i d) j r) p q < s.gates = (h.has_text.regions i d l j r m).1 p q b in omega (arith, g, w))
+
+pub few_steps : (gates : ℕ) (text : List ℕ) (s : Plan) → IsTextOf gates text s → length s.steps ≤ 4294967295
+few_steps gates text s h = h.has_text.steps

@@ -6,6 +6,8 @@ mod finding;
 mod places;
 mod reader;
 mod steps;
+#[cfg(test)]
+mod tests;
 mod text_reader;
 
 pub use finding::{Finding, verdict};
