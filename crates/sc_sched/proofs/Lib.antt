@@ -17,3 +17,5 @@ pub mod TextLemmas
 pub mod RegionLemmas
 pub mod OneSchedule
 pub mod Lawful
+pub mod RankLemmas
+pub mod SomeRank
