@@ -6,3 +6,4 @@ pub mod WideRegions
 pub mod Breaches
 pub mod ReaderLemmas
 pub mod LineLemmas
+pub mod TextLaws

@@ -120,7 +120,7 @@ end_not_space : (x y : ℕ) (xs ys : List ℕ) → x ≡ 10 → y ≡ 32 → x �
 end_not_space x y xs ys a b h = let e : x ≡ y = head_is x y xs ys h in absurd (omega (arith, a, b, e))
 
 -- a number that ends before the next space or the line feed
-after_ends : (left more : List ℕ) → EndsNumber (after_spaces left ++ 10 ∷ more)
+pub after_ends : (left more : List ℕ) → EndsNumber (after_spaces left ++ 10 ∷ more)
 after_ends [] more = refl
 after_ends (x ∷ left) more = refl
 

@@ -3,6 +3,7 @@
 
 mod early;
 mod finding;
+mod laws;
 mod places;
 mod reader;
 mod steps;
@@ -11,4 +12,5 @@ mod tests;
 mod text_reader;
 
 pub use finding::{Finding, verdict};
+pub use laws::{texts_are_read_one_way, written_texts_are_read};
 pub use text_reader::{SchedReadFault, read_schedule};
