@@ -1,6 +1,5 @@
 -- How many numbers pass.
-use Rattle.std.proofs.Common.{◌≡◌, ℕ, zero, suc, ◌+◌, ◌-◌, ◌<◌, ◌≤◌, Bool, true, false, cond, List, [], ◌∷◌, refl, sym, ap, ◌∙◌, subst, arith, rules, ◌⊎◌, inl, inr, ◌&&◌, ◌||◌, eqb}
-use Rattle.std.proofs.lemmas.Grind.{common_steps}
+use Rattle.std.proofs.Common.{◌≡◌, ℕ, zero, suc, ◌<◌, ◌≤◌, Bool, true, false, cond, refl, sym, arith, ◌⊎◌, inl, inr, ◌&&◌, ◌||◌}
 use Rattle.std.proofs.lemmas.Bool.{false≢true, cases_lt}
 use Rattle.sc_sched.specs.Step.{count_below}
 
@@ -28,13 +27,15 @@ lt_cases x n h = elim (cases_lt x n) [ inl l ↦ inr l | inr g ↦ inl (omega (a
 pub count_below_lt : (p q : ℕ → Bool) (n x : ℕ) → ((y : ℕ) → y < n → p y ≡ true → q y ≡ true) → x < n → p x ≡ false → q x ≡ true → count_below p n < count_below q n
 count_below_lt p q zero x h b u v = omega arith
 count_below_lt p q (suc n) x h b u v =
-    elim (lt_cases x n b) [ inl e ↦
-       (let a : count_below p n ≤ count_below q n = count_below_le p q n (λ y b. h y (omega arith)) in
-        rw (← e, u, v) (rw e (omega arith)))
-    | inr l ↦
-       (let a : count_below p n < count_below q n = count_below_lt p q n x (λ y b. h y (omega arith)) l u v in
-        let b : cond (p n) 1 0 ≤ cond (q n) 1 0 = bit_le (p n) (q n) (h n (omega arith)) in
-        omega arith) ]
+    elim (lt_cases x n b) [
+      | inl e ↦
+          (let a : count_below p n ≤ count_below q n = count_below_le p q n (λ y b. h y (omega arith)) in
+          rw (← e, u, v) (rw e (omega arith)))
+      | inr l ↦
+          (let a : count_below p n < count_below q n = count_below_lt p q n x (λ y b. h y (omega arith)) l u v in
+          let b : cond (p n) 1 0 ≤ cond (q n) 1 0 = bit_le (p n) (q n) (h n (omega arith)) in
+          omega arith)
+    ]
 
 -- truth values
 pub and_left : (a b : Bool) → (a && b) ≡ true → a ≡ true

@@ -1,10 +1,9 @@
 -- A cut has the chosen gates, and as many regions as they need.
-use Rattle.std.proofs.Common.{◌≡◌, ℕ, zero, suc, ◌+◌, ◌-◌, ◌*◌, ◌/◌, ◌%◌, ◌<◌, ◌≤◌, Bool, true, false, cond, List, [], ◌∷◌, ◌++◌, length, take, drop, refl, sym, ap, ◌∙◌, subst, arith, rules, ◌⊎◌, inl, inr, ◌&&◌, ◌||◌, not, eqb}
-use Rattle.std.specs.Prelude.{◌==◌}
-use Rattle.std.specs.List.{filter, list_any, flat_map, sum_by, All}
-use Rattle.std.proofs.lemmas.List.Sums.{sum_by-cons, sum_by-append, sum_by_push}
+use Rattle.std.proofs.Common.{◌≡◌, ℕ, zero, suc, ◌+◌, ◌-◌, ◌*◌, ◌/◌, ◌%◌, ◌<◌, ◌≤◌, Bool, true, false, cond, List, [], ◌∷◌, length, drop, refl, sym, ap, ◌∙◌, arith, inl, inr, ◌&&◌, not, eqb}
+use Rattle.std.specs.List.{filter, sum_by}
+use Rattle.std.proofs.lemmas.List.Sums.{sum_by-cons, sum_by_push}
 use Rattle.std.proofs.lemmas.List.Concat.{length-flat_map}
-use Rattle.std.proofs.lemmas.Bool.{false≢true, cases_Bool, cases_lt, eqb-true, eq-eqb}
+use Rattle.std.proofs.lemmas.Bool.{cases_Bool, cases_lt, eqb-true}
 use Rattle.std.proofs.lemmas.List.{append-nil, length-append, length-drop}
 use Rattle.std.proofs.lemmas.List.Elements.{All-weaker}
 use Rattle.std.proofs.lemmas.Nat.{div-add-mod'}
@@ -15,7 +14,6 @@ use Rattle.sc_sched.proofs.Take.{sum_same, quotient, mul_add}
 use Rattle.sc_sched.proofs.Free.{fun_same}
 use Rattle.sc_sched.specs.Step.{count_below, div_up, Shop, size, needed, IsShop, IsListed}
 use Rattle.sc_sched.specs.Schedule.{all_below, positions, pieces, of_kind, leads, cut}
-use Rattle.sc_sched.proofs.Count.{and_left, and_right, both}
 use Rattle.sc_sched.proofs.Schedule.{filter_push}
 
 pub add_none : (n : ℕ) → n + 0 ≡ n
@@ -28,8 +26,9 @@ pos_not n h = elim (cases_Bool (eqb n 0)) [ inl t ↦ absurd (omega (arith, eqb-
 none_below : (p : ℕ → Bool) (n : ℕ) → all_below (λ y. not (p y)) n ≡ eqb (count_below p n) 0
 none_below p zero = refl
 none_below p (suc n) = elim (cases_Bool (p n)) [
-    inl t ↦ rw (t) (sym (pos_not (count_below p n + 1) (omega arith)))
-  | inr f ↦ rw (f) (none_below p n ∙ ap (λ (v : ℕ). eqb v 0) (sym (add_none (count_below p n)))) ]
+  | inl t ↦ rw (t) (sym (pos_not (count_below p n + 1) (omega arith)))
+  | inr f ↦ rw (f) (none_below p n ∙ ap (λ (v : ℕ). eqb v 0) (sym (add_none (count_below p n))))
+]
 
 -- 1 for a kind that has a chosen gate below n, and 0 for another
 abbrev pub some_of : ℕ → ℕ
@@ -55,9 +54,9 @@ pub one_leader : {K : Type 0} (s : Shop K) (o : IsShop s) (c : ℕ → Bool) (ki
 one_leader s o c kind zero l = refl
 one_leader s o c kind (suc n) l =
     step_leader (count_below (λ x. leads s c x && s.is kind x) n) (count_below (λ x. c x && s.is kind x) n) (c n) (s.is kind n) (all_below (λ y. not (c y && s.is (s.kind_of n) y)) n)
-      (one_leader s o c kind n (omega (arith, l)))
-      (λ i. let e : kind ≡ s.kind_of n = o.same_kind n kind (omega (arith, l)) i in
-        rw e (none_below (λ y. c y && s.is (s.kind_of n) y) n))
+    (one_leader s o c kind n (omega (arith, l)))
+    (λ i. let e : kind ≡ s.kind_of n = o.same_kind n kind (omega (arith, l)) i in
+    rw e (none_below (λ y. c y && s.is (s.kind_of n) y) n))
 
 pub none_times : (n : ℕ) → 0 * n ≡ 0
 none_times n = grind arith
@@ -74,17 +73,18 @@ sum_changed {K} s f' f x d h same more =
 
 -- the sum over the leaders, by kinds
 pub leaders_by_kind : {K : Type 0} (s : Shop K) (o : IsShop s) (c : ℕ → Bool) (g : K → ℕ) (n : ℕ) → n ≤ s.gates →
-  sum_by (λ x. g (s.kind_of x)) (filter (leads s c) (positions n)) ≡ sum_by (λ kind. count_below (λ x. leads s c x && s.is kind x) n * g kind) s.kinds
+    sum_by (λ x. g (s.kind_of x)) (filter (leads s c) (positions n)) ≡ sum_by (λ kind. count_below (λ x. leads s c x && s.is kind x) n * g kind) s.kinds
 leaders_by_kind s o c g zero l = sym (all_zero (λ kind. 0 * g kind) s.kinds (λ kind. none_times (g kind)))
 leaders_by_kind s o c g (suc n) l =
     ap (sum_by (λ x. g (s.kind_of x))) (filter_push (leads s c) (positions n) n) ∙ elim (cases_Bool (leads s c n)) [
-      inl t ↦ rw t (sum_by_push (λ x. g (s.kind_of x)) (filter (leads s c) (positions n)) n
-        ∙ (ap (λ (v : ℕ). v + g (s.kind_of n)) (leaders_by_kind s o c g n (omega (arith, l)))
-        ∙ sym (sum_changed s _ _ n (g (s.kind_of n)) (o.listed n (omega (arith, l)))
-            (λ kind i. rw (i, add_none (count_below (λ x. leads s c x && s.is kind x) n)) refl)
-            (rw (o.of_kind n (omega (arith, l))) (mul_add _ _)))))
-    | inr f ↦ rw (f, append-nil (filter (leads s c) (positions n))) (leaders_by_kind s o c g n (omega (arith, l))
-        ∙ ap (λ (h : _ → ℕ). sum_by h s.kinds) (fun_same _ _ (λ kind. ap (λ (v : ℕ). v * g kind) (sym (add_none (count_below (λ x. leads s c x && s.is kind x) n)))))) ]
+      | inl t ↦ rw t (sum_by_push (λ x. g (s.kind_of x)) (filter (leads s c) (positions n)) n
+          ∙ (ap (λ (v : ℕ). v + g (s.kind_of n)) (leaders_by_kind s o c g n (omega (arith, l)))
+          ∙ sym (sum_changed s _ _ n (g (s.kind_of n)) (o.listed n (omega (arith, l)))
+          (λ kind i. rw (i, add_none (count_below (λ x. leads s c x && s.is kind x) n)) refl)
+          (rw (o.of_kind n (omega (arith, l))) (mul_add _ _)))))
+      | inr f ↦ rw (f, append-nil (filter (leads s c) (positions n))) (leaders_by_kind s o c g n (omega (arith, l))
+          ∙ ap (λ (h : _ → ℕ). sum_by h s.kinds) (fun_same _ _ (λ kind. ap (λ (v : ℕ). v * g kind) (sym (add_none (count_below (λ x. leads s c x && s.is kind x) n))))))
+    ]
 
 pub one_times : (n : ℕ) → 1 * n ≡ n
 one_times n = grind arith
@@ -98,9 +98,10 @@ div_suc m c p q =
     let e : t / c * c + t % c ≡ t = div-add-mod' t c in
     let r : t % c < c = mod-lt t p in
     elim (cases_lt m c) [
-      inl k ↦ (let z : t / c ≡ 0 = quotient 0 c t (rw (none_times c) (omega arith)) (rw (none_times c) (omega (arith, k, p))) in
-        rw z (sym (quotient 1 c (m + (c - 1)) (rw (one_times c) (omega (arith, q))) (rw (one_times c) (omega (arith, k, p))))))
-    | inr g ↦ sym (plus_one (t / c)) ∙ (sym (quotient (t / c + 1) c (m + (c - 1)) (rw (mul_add (t / c) c) (omega (arith, e, g, p))) (rw (mul_add (t / c) c) (omega (arith, e, r, g, p))))) ]
+      | inl k ↦ (let z : t / c ≡ 0 = quotient 0 c t (rw (none_times c) (omega arith)) (rw (none_times c) (omega (arith, k, p))) in
+          rw z (sym (quotient 1 c (m + (c - 1)) (rw (one_times c) (omega (arith, q))) (rw (one_times c) (omega (arith, k, p))))))
+      | inr g ↦ sym (plus_one (t / c)) ∙ (sym (quotient (t / c + 1) c (m + (c - 1)) (rw (mul_add (t / c) c) (omega (arith, e, g, p))) (rw (mul_add (t / c) c) (omega (arith, e, r, g, p)))))
+    ]
 
 -- as many pieces as the quotient, rounded up
 length_pieces : (fuel size : ℕ) (xs : List ℕ) → 0 < size → length xs ≤ fuel → length (pieces fuel size xs) ≡ div_up (length xs) size
@@ -130,8 +131,8 @@ length_cut {K} s o c =
     let g : K → ℕ = λ kind. div_up (size s c kind) (s.room kind) in
     length-flat_map (λ x. pieces s.gates (s.room (s.kind_of x)) (of_kind s c (s.kind_of x))) (filter (leads s c) (positions s.gates))
     ∙ (ap (λ (h : ℕ → ℕ). sum_by h (filter (leads s c) (positions s.gates))) (fun_same _ _ (λ x.
-        length_pieces s.gates (s.room (s.kind_of x)) (of_kind s c (s.kind_of x)) (o.roomy (s.kind_of x)) (rw (length_of_kind (λ y. c y && s.is (s.kind_of x) y) s.gates) (count_all _ s.gates))
-        ∙ ap (λ (v : ℕ). div_up v (s.room (s.kind_of x))) (length_of_kind (λ y. c y && s.is (s.kind_of x) y) s.gates)))
+    length_pieces s.gates (s.room (s.kind_of x)) (of_kind s c (s.kind_of x)) (o.roomy (s.kind_of x)) (rw (length_of_kind (λ y. c y && s.is (s.kind_of x) y) s.gates) (count_all _ s.gates))
+    ∙ ap (λ (v : ℕ). div_up v (s.room (s.kind_of x))) (length_of_kind (λ y. c y && s.is (s.kind_of x) y) s.gates)))
     ∙ (leaders_by_kind s o c g s.gates (omega arith)
     ∙ ap (λ (h : K → ℕ). sum_by h s.kinds) (fun_same _ _ (λ kind. ap (λ (v : ℕ). v * g kind) (one_leader s o c kind s.gates (omega arith))
-        ∙ led (size s c kind) (g kind) (λ z. rw z (div_none (s.room kind) (o.roomy kind)))))))
+    ∙ led (size s c kind) (g kind) (λ z. rw z (div_none (s.room kind) (o.roomy kind)))))))

@@ -1,14 +1,14 @@
 -- What a step takes first, and how the regions that are open are then filled.
-use Rattle.std.proofs.Common.{◌≡◌, ℕ, zero, suc, ◌+◌, ◌-◌, ◌/◌, ◌*◌, ◌<◌, ◌≤◌, Bool, true, false, cond, List, [], ◌∷◌, ◌++◌, refl, sym, ap, ◌∙◌, subst, arith, rules, ◌⊎◌, inl, inr, ◌&&◌, ◌||◌, eqb, leb}
-use Rattle.std.specs.Prelude.{◌==◌, nat_le}
+use Rattle.std.proofs.Common.{◌≡◌, ℕ, ◌+◌, ◌-◌, ◌<◌, ◌≤◌, Bool, true, false, List, ◌∷◌, ◌++◌, refl, sym, ap, ◌∙◌, arith, rules, inl, inr, ◌&&◌}
+use Rattle.std.specs.Prelude.{◌==◌}
 use Rattle.std.specs.List.{sum_by}
 use Rattle.std.proofs.lemmas.List.Sums.{sum_by-cons, sum_by-append, sum_by-le-sum_by}
 use Rattle.std.proofs.lemmas.Bool.{false≢true, cases_Bool, eqb-true, eq-eqb}
 use Rattle.std.proofs.lemmas.Nat.{le-div}
 use Rattle.std.proofs.Math.Nat.{div-mul-le_self}
-use Rattle.sc_sched.specs.Step.{count_below, div_up, Shop, size, needed, fits, beside, IsStep, IsOrder, IsListed, IsShop}
+use Rattle.sc_sched.specs.Step.{div_up, Shop, size, needed, fits, beside, IsStep, IsListed, IsShop}
 use Rattle.sc_sched.specs.Rounds.{Filled}
-use Rattle.sc_sched.proofs.Count.{count_below_le, count_below_same, count_below_lt, and_left, and_right, both, either, or_left, or_right, same_truth}
+use Rattle.sc_sched.proofs.Count.{count_below_le, count_below_lt, and_left, and_right, both, either, or_left, or_right}
 
 pub div_up_le : (m n c : ℕ) → 0 < c → m ≤ n → div_up m c ≤ div_up n c
 div_up_le m n c p h = le-div _ _ c p (omega (arith, div-mul-le_self (m + (c - 1)) c))
@@ -45,8 +45,8 @@ eq_true y x h = eqb-true y x h
 fits_chosen : {K : Type 0} (s : Shop K) (o : IsShop s) (ready taken chosen : ℕ → Bool) → Filled s ready taken chosen → (x : ℕ) → x < s.gates → chosen x ≡ true → needed s (beside s chosen x) ≤ s.regions
 fits_chosen s o ready taken chosen f x b c =
     let p : (kind : _) → div_up (size s (beside s chosen x) kind) (s.room kind) ≤ div_up (size s taken kind) (s.room kind) =
-      λ kind. rw (← f.level kind) (div_up_le _ _ (s.room kind) (o.roomy kind) (size_le s (beside s chosen x) chosen kind
-        (λ y d i k. elim (either (y == x) _ k) [ inl e ↦ rw (eq_true y x e) c | inr u ↦ and_left (chosen y) _ u ]))) in
+    λ kind. rw (← f.level kind) (div_up_le _ _ (s.room kind) (o.roomy kind) (size_le s (beside s chosen x) chosen kind
+    (λ y d i k. elim (either (y == x) _ k) [ inl e ↦ rw (eq_true y x e) c | inr u ↦ and_left (chosen y) _ u ]))) in
     omega (arith, needed_le s (beside s chosen x) taken p, f.within)
 
 -- where a ready x is not chosen it does not fit
@@ -54,13 +54,13 @@ misfits_left : {K : Type 0} (s : Shop K) (o : IsShop s) (ready taken chosen : �
 misfits_left s o ready taken chosen f x b r c =
     let not_taken : taken x ≡ false = elim (cases_Bool (taken x)) [ inl t ↦ absurd (false≢true (sym c ∙ f.keeps x b t)) | inr u ↦ u ] in
     let p : (kind : _) → div_up (size s taken kind) (s.room kind) ≤ div_up (size s (beside s chosen x) kind) (s.room kind) =
-      λ kind. div_up_le _ _ (s.room kind) (o.roomy kind) (size_le s taken (beside s chosen x) kind
-        (λ y d i k. or_right _ _ (both _ _ (f.keeps y d k) (f.first y x d b k r not_taken)))) in
+    λ kind. div_up_le _ _ (s.room kind) (o.roomy kind) (size_le s taken (beside s chosen x) kind
+    (λ y d i k. or_right _ _ (both _ _ (f.keeps y d k) (f.first y x d b k r not_taken)))) in
     let more : size s chosen (s.kind_of x) < size s (beside s chosen x) (s.kind_of x) =
-      size_lt s chosen (beside s chosen x) (s.kind_of x) x
-        (λ y d i k. or_right _ _ (both _ _ k (f.in_order (s.kind_of x) y x d b i (o.of_kind x b) k r c))) b (o.of_kind x b) c (or_left (x == x) (chosen x && s.before x x) (eq-eqb x x refl)) in
+    size_lt s chosen (beside s chosen x) (s.kind_of x) x
+    (λ y d i k. or_right _ _ (both _ _ k (f.in_order (s.kind_of x) y x d b i (o.of_kind x b) k r c))) b (o.of_kind x b) c (or_left (x == x) (chosen x && s.before x x) (eq-eqb x x refl)) in
     let q : div_up (size s taken (s.kind_of x)) (s.room (s.kind_of x)) < div_up (size s (beside s chosen x) (s.kind_of x)) (s.room (s.kind_of x)) =
-      omega (arith, f.level (s.kind_of x), f.full x b r c, div_up_le (size s chosen (s.kind_of x) + 1) (size s (beside s chosen x) (s.kind_of x)) (s.room (s.kind_of x)) (o.roomy (s.kind_of x)) (omega (arith, more))) in
+    omega (arith, f.level (s.kind_of x), f.full x b r c, div_up_le (size s chosen (s.kind_of x) + 1) (size s (beside s chosen x) (s.kind_of x)) (s.room (s.kind_of x)) (o.roomy (s.kind_of x)) (omega (arith, more))) in
     omega (arith, f.used_up x b r c, needed_lt s taken (beside s chosen x) x (o.listed x b) p q)
 
 pub fits_yes : {K : Type 0} (s : Shop K) (c : ℕ → Bool) → needed s c ≤ s.regions → fits s c ≡ true
@@ -72,9 +72,13 @@ unfolding fits
 fits_no s c h = search (rules, h)
 
 pub filled_is_step : {K : Type 0} (s : Shop K) → IsShop s → (ready taken chosen : ℕ → Bool) → Filled s ready taken chosen → IsStep s ready chosen
-filled_is_step s o ready taken chosen f = record { exact = λ x b.
-    elim (cases_Bool (chosen x)) [
-      inl c ↦ rw (c, f.only_ready x b c, fits_yes s _ (fits_chosen s o ready taken chosen f x b c)) refl
-    | inr c ↦ elim (cases_Bool (ready x)) [
-        inl r ↦ rw (c, r, fits_no s _ (misfits_left s o ready taken chosen f x b r c)) refl
-      | inr r ↦ rw (c, r) refl ] ] }
+filled_is_step s o ready taken chosen f = record {
+  exact = λ x b.
+      elim (cases_Bool (chosen x)) [
+        | inl c ↦ rw (c, f.only_ready x b c, fits_yes s _ (fits_chosen s o ready taken chosen f x b c)) refl
+        | inr c ↦ elim (cases_Bool (ready x)) [
+          | inl r ↦ rw (c, r, fits_no s _ (misfits_left s o ready taken chosen f x b r c)) refl
+          | inr r ↦ rw (c, r) refl
+        ]
+      ];
+}

@@ -1,14 +1,12 @@
 -- The last gate before a position on a wire.
-use Rattle.std.proofs.Common.{◌≡◌, ℕ, zero, suc, ◌+◌, ◌<◌, ◌≤◌, Bool, true, false, Option, Some, None, List, [], ◌∷◌, ◌++◌, refl, sym, ap, ◌∙◌, subst, arith, ◌⊎◌, inl, inr}
-use Rattle.std.specs.Prelude.{slice_get, IsTrue, if◌then◌else◌}
+use Rattle.std.proofs.Common.{◌≡◌, ℕ, zero, suc, ◌<◌, ◌≤◌, Bool, true, false, Option, Some, None, List, [], ◌∷◌, refl, sym, ap, ◌∙◌, arith, inl, inr}
+use Rattle.std.specs.Prelude.{slice_get}
 use Rattle.std.specs.List.{list_any}
-use Rattle.std.proofs.lemmas.Bool.{false≢true, cases_Bool, cases_lt}
+use Rattle.std.proofs.lemmas.Bool.{false≢true, cases_Bool}
 use Rattle.std.proofs.lemmas.List.Folds.{list_any-append}
 use Rattle.sc_gate.specs.declared.gate.Wire.{Wire}
 use Rattle.sc_gate.specs.declared.gate.Gate.{Gate}
-use Rattle.sc_gate.specs.Gates.{operands}
-use Rattle.sc_gate.specs.Wires.{member, Shares}
-use Rattle.sc_gate.specs.Wires.{shares as share}
+use Rattle.sc_gate.specs.Wires.{Shares}
 use Rattle.sc_gate.proofs.WireLemmas.{shares_tells}
 use Rattle.sc_sched.specs.Gates.{has_wire, last_on, both_share, shares}
 use Rattle.sc_sched.specs.Schedule.{positions}
@@ -29,8 +27,9 @@ pub record LastOn (gates : List Gate) (w : Wire) (n p : ℕ) : Type 0 where
 pub last_is : (gates : List Gate) (w : Wire) (n p : ℕ) → last_on gates w n ≡ Some p → LastOn gates w n p
 last_is gates w zero p h = let e : None ≡ Some p = h in cc
 last_is gates w (suc n) p h = elim (cases_Bool (has_at gates n w)) [
-    inl t ↦ (let e : n ≡ p = some_same n p (rw t at h) in record { below = omega (arith, e); has = ap (λ (q : ℕ). has_at gates q w) (sym e) ∙ t; last = λ q l b. absurd (omega (arith, e, l, b)) })
-  | inr f ↦ (let r : LastOn gates w n p = last_is gates w n p (rw f at h) in record { below = omega (arith, r.below); has = r.has; last = λ q l b. elim (lt_cases q n b) [ inl e ↦ ap (λ (q : ℕ). has_at gates q w) e ∙ f | inr m ↦ r.last q l m ] }) ]
+  | inl t ↦ (let e : n ≡ p = some_same n p (rw t at h) in record { below = omega (arith, e); has = ap (λ (q : ℕ). has_at gates q w) (sym e) ∙ t; last = λ q l b. absurd (omega (arith, e, l, b)) })
+  | inr f ↦ (let r : LastOn gates w n p = last_is gates w n p (rw f at h) in record { below = omega (arith, r.below); has = r.has; last = λ q l b. elim (lt_cases q n b) [ inl e ↦ ap (λ (q : ℕ). has_at gates q w) e ∙ f | inr m ↦ r.last q l m ] })
+]
 
 -- where some gate has the wire there is a last one
 pub record LastFrom (gates : List Gate) (w : Wire) (n x : ℕ) : Type 0 where
@@ -41,9 +40,12 @@ pub record LastFrom (gates : List Gate) (w : Wire) (n x : ℕ) : Type 0 where
 pub last_from : (gates : List Gate) (w : Wire) (n x : ℕ) → x < n → has_at gates x w ≡ true → LastFrom gates w n x
 last_from gates w zero x l h = absurd (omega (arith, l))
 last_from gates w (suc n) x l h = elim (cases_Bool (has_at gates n w)) [
-    inl t ↦ record { at = n; is = rw t refl; not_before = omega (arith, l) }
-  | inr f ↦ elim (lt_cases x n l) [ inl e ↦ absurd (false≢true (sym f ∙ (ap (λ (q : ℕ). has_at gates q w) (sym e) ∙ h)))
-    | inr m ↦ (let r : LastFrom gates w n x = last_from gates w n x m h in record { at = r.at; is = rw f r.is; not_before = r.not_before }) ] ]
+  | inl t ↦ record { at = n; is = rw t refl; not_before = omega (arith, l) }
+  | inr f ↦ elim (lt_cases x n l) [
+    | inl e ↦ absurd (false≢true (sym f ∙ (ap (λ (q : ℕ). has_at gates q w) (sym e) ∙ h)))
+    | inr m ↦ (let r : LastFrom gates w n x = last_from gates w n x m h in record { at = r.at; is = rw f r.is; not_before = r.not_before })
+  ]
+]
 
 -- a wire of both gates
 pub record SharedWire (gates : List Gate) (x y : ℕ) : Type 0 where
@@ -71,11 +73,13 @@ shares_by gates x y w a b = wire_both (slice_get gates x) (slice_get gates y) w 
 pub any_below : (p : ℕ → Bool) (n x : ℕ) → x < n → p x ≡ true → list_any p (positions n) ≡ true
 any_below p zero x l h = absurd (omega (arith, l))
 any_below p (suc n) x l h = list_any-append p (positions n) (n ∷ []) ∙ elim (lt_cases x n l) [
-    inl e ↦ or_right (list_any p (positions n)) _ (or_left _ false (ap p (sym e) ∙ h))
-  | inr m ↦ or_left _ _ (any_below p n x m h) ]
+  | inl e ↦ or_right (list_any p (positions n)) _ (or_left _ false (ap p (sym e) ∙ h))
+  | inr m ↦ or_left _ _ (any_below p n x m h)
+]
 
 pub some_below_any : (p : ℕ → Bool) (n : ℕ) → list_any p (positions n) ≡ true → (x : ℕ) × (x < n) × (p x ≡ true)
 some_below_any p zero h = absurd (false≢true h)
 some_below_any p (suc n) h = elim (either (list_any p (positions n)) _ (sym (list_any-append p (positions n) (n ∷ [])) ∙ h)) [
-    inl a ↦ (let r = some_below_any p n a in (r.0, omega (arith, r.1), r.2))
-  | inr b ↦ elim (either (p n) false b) [ inl c ↦ (n, omega arith, c) | inr d ↦ absurd (false≢true d) ] ]
+  | inl a ↦ (let r = some_below_any p n a in (r.0, omega (arith, r.1), r.2))
+  | inr b ↦ elim (either (p n) false b) [ inl c ↦ (n, omega arith, c) | inr d ↦ absurd (false≢true d) ]
+]

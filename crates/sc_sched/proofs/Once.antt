@@ -1,23 +1,23 @@
 -- Each position stands once.
-use Rattle.std.proofs.Common.{◌≡◌, ℕ, zero, suc, ◌+◌, ◌-◌, ◌*◌, ◌<◌, ◌≤◌, Bool, true, false, cond, List, [], ◌∷◌, ◌++◌, length, take, drop, refl, sym, ap, ◌∙◌, subst, arith, rules, ◌⊎◌, inl, inr, ◌&&◌, ◌||◌, not, eqb, append_assoc}
+use Rattle.std.proofs.Common.{◌≡◌, ℕ, zero, suc, ◌+◌, ◌*◌, ◌<◌, ◌≤◌, Bool, true, false, cond, List, [], ◌∷◌, ◌++◌, length, take, drop, refl, sym, ap, ◌∙◌, arith, inl, inr, ◌&&◌, ◌||◌, not, append_assoc}
 use Rattle.std.specs.Prelude.{◌==◌}
-use Rattle.std.specs.List.{filter, list_any, flat_map, sum_by, count_by, All}
-use Rattle.std.proofs.lemmas.Bool.{false≢true, cases_Bool, cases_lt, eqb-true, eq-eqb}
+use Rattle.std.specs.List.{filter, flat_map, sum_by, count_by}
+use Rattle.std.proofs.lemmas.Bool.{cases_lt, eq-eqb}
 use Rattle.std.proofs.lemmas.List.{length-drop, take-append-drop}
 use Rattle.std.proofs.lemmas.List.Sums.{sum_by-cons, sum_by-append}
 use Rattle.std.proofs.lemmas.List.Elements.{All-weaker}
 use Rattle.std.proofs.lemmas.List.Folds.{list_any-append}
-use Rattle.sc_sched.specs.Step.{count_below, Shop, size, IsShop, IsStep, IsListed}
+use Rattle.sc_sched.specs.Step.{count_below, Shop, size, IsShop, IsListed}
 use Rattle.sc_sched.specs.Legal.{times_in, Step, stands_in, placed}
 use Rattle.sc_sched.specs.Schedule.{positions, pieces, of_kind, leads, cut, ready, IsPriority}
-use Rattle.sc_sched.proofs.Count.{and_left, and_right, both}
+use Rattle.sc_sched.proofs.Count.{and_left}
 use Rattle.sc_sched.proofs.Schedule.{filter_push, not_true}
 use Rattle.sc_sched.proofs.Step.{count_all}
-use Rattle.sc_sched.proofs.Cut.{one_leader, length_of_kind, add_none, some_of, leaders_by_kind, none_times, one_times, all_zero}
+use Rattle.sc_sched.proofs.Cut.{one_leader, length_of_kind, add_none, some_of, leaders_by_kind, one_times, all_zero}
 use Rattle.sc_sched.proofs.Fill.{sum_apart}
 use Rattle.sc_sched.proofs.Take.{sum_same, not_eq}
 use Rattle.sc_sched.proofs.Free.{fun_same}
-use Rattle.sc_sched.proofs.Stands.{stands_cut, count_some}
+use Rattle.sc_sched.proofs.Stands.{count_some}
 
 sum_flat : {A B : Type 0} (h : B → ℕ) (f : A → List B) (xs : List A) → sum_by h (flat_map f xs) ≡ sum_by (λ x. sum_by h (f x)) xs
 sum_flat h f [] = refl
@@ -59,11 +59,11 @@ count_past q (suc n) x l = count_push q n x ∙ rw (count_past q n x (omega (ari
 count_kept : (q : ℕ → Bool) (n x : ℕ) → x < n → count_by (λ y. y == x) (filter q (positions n)) ≡ cond (q x) 1 0
 count_kept q zero x l = absurd (omega (arith, l))
 count_kept q (suc n) x l = count_push q n x ∙ elim (cases_lt x n) [
-    inl k ↦ (let a : (n == x) ≡ false = not_eq x n (λ e. omega (arith, e, k)) in rw (a, and_no (q n), add_none (count_by (λ y. y == x) (filter q (positions n)))) (count_kept q n x k))
+  | inl k ↦ (let a : (n == x) ≡ false = not_eq x n (λ e. omega (arith, e, k)) in rw (a, and_no (q n), add_none (count_by (λ y. y == x) (filter q (positions n)))) (count_kept q n x k))
   | inr g ↦ (let e : n ≡ x = omega (arith, l, g) in
       let a : (n == x) ≡ true = eq-eqb n x e in
-      rw (count_past q n x g, a, and_yes (q n), zero_plus (cond (q n) 1 0)) (ap (λ (m : ℕ). cond (q m) 1 0) e)) ]
-
+      rw (count_past q n x g, a, and_yes (q n), zero_plus (cond (q n) 1 0)) (ap (λ (m : ℕ). cond (q m) 1 0) e))
+]
 
 led_or_none : (m : ℕ) (v : Bool) → (v ≡ true → 0 < m) → some_of m * cond v 1 0 ≡ cond v 1 0
 led_or_none zero true h = absurd (omega (arith, h refl))
@@ -88,11 +88,11 @@ once_cut {K} s o c x b =
     let g : K → ℕ = λ kind. cond (c x && s.is kind x) 1 0 in
     sum_flat (λ region. count_by (λ y. y == x) region) (λ l. pieces s.gates (s.room (s.kind_of l)) (of_kind s c (s.kind_of l))) (filter (leads s c) (positions s.gates))
     ∙ (ap (λ (h : ℕ → ℕ). sum_by h (filter (leads s c) (positions s.gates))) (fun_same _ (λ l. g (s.kind_of l)) (λ l.
-        count_pieces (λ y. y == x) s.gates (s.room (s.kind_of l)) (of_kind s c (s.kind_of l)) (o.roomy (s.kind_of l)) (rw (length_of_kind (λ y. c y && s.is (s.kind_of l) y) s.gates) (count_all _ s.gates))
-        ∙ count_kept (λ y. c y && s.is (s.kind_of l) y) s.gates x b))
+    count_pieces (λ y. y == x) s.gates (s.room (s.kind_of l)) (of_kind s c (s.kind_of l)) (o.roomy (s.kind_of l)) (rw (length_of_kind (λ y. c y && s.is (s.kind_of l) y) s.gates) (count_all _ s.gates))
+    ∙ count_kept (λ y. c y && s.is (s.kind_of l) y) s.gates x b))
     ∙ (leaders_by_kind s o c g s.gates (omega arith)
     ∙ (ap (λ (h : K → ℕ). sum_by h s.kinds) (fun_same _ g (λ kind. ap (λ (m : ℕ). m * g kind) (one_leader s o c kind s.gates (omega arith))
-        ∙ led_or_none (count_below (λ y. c y && s.is kind y) s.gates) (c x && s.is kind x) (λ t. count_some (λ y. c y && s.is kind y) s.gates x b t)))
+    ∙ led_or_none (count_below (λ y. c y && s.is kind y) s.gates) (c x && s.is kind x) (λ t. count_some (λ y. c y && s.is kind y) s.gates x b t)))
     ∙ one_kind s o (c x) x b)))
 
 one_place : (f t r : Bool) → (t ≡ true → f ≡ true → ⊥) → cond t 1 0 + cond (not (f || (t || false)) && r) 1 0 ≡ cond (not f && (t || r)) 1 0
@@ -109,7 +109,7 @@ once_rest s o steps h x b front (t ∷ rest) e =
     let here : times_in x t ≡ cond (stands_in t x) 1 0 = ap (times_in x) (h.regions front t rest e) ∙ once_cut s o (stands_in t) x b in
     let after : sum_by (times_in x) rest ≡ cond (not (placed (front ++ t ∷ []) x) && placed rest x) 1 0 = once_rest s o steps h x b (front ++ t ∷ []) rest (e ∙ sym (append_assoc front (t ∷ []) rest)) in
     sum_by-cons (times_in x) t rest ∙ rw (here, after, list_any-append (λ step. stands_in step x) front (t ∷ []))
-      (one_place (placed front x) (stands_in t x) (placed rest x) (λ there p. not_true (placed front x) (and_left _ _ (and_left (ready s front x) _ (sym ((h.exact front t rest e).exact x b) ∙ there))) p))
+    (one_place (placed front x) (stands_in t x) (placed rest x) (λ there p. not_true (placed front x) (and_left _ _ (and_left (ready s front x) _ (sym ((h.exact front t rest e).exact x b) ∙ there))) p))
 
 -- each position stands once
 pub once : {K : Type 0} (s : Shop K) (o : IsShop s) (steps : List Step) → IsPriority s steps → (x : ℕ) → x < s.gates → sum_by (times_in x) steps ≡ 1

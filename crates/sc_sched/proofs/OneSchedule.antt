@@ -1,12 +1,12 @@
 -- Two priority schedules of a gate list are equal.
-use Rattle.std.proofs.Common.{◌≡◌, ℕ, ◌<◌, Bool, true, false, Option, Some, List, ◌++◌, ◌∷◌, length, refl, sym, ap, ◌∙◌, ◌&&◌, ◌||◌}
+use Rattle.std.proofs.Common.{◌≡◌, ℕ, ◌<◌, Bool, Some, List, length, refl, sym, ap, ◌∙◌, ◌&&◌, ◌||◌}
 use Rattle.std.specs.Prelude.{◌==◌}
 use Rattle.sc_gate.specs.declared.gate.Gate.{Gate}
 use Rattle.sc_gate.proofs.Greatest.{greatest_unique}
 use Rattle.sc_sched.specs.declared.order.Rank.{Rank}
 use Rattle.sc_sched.specs.Legal.{Step, stands_in}
 use Rattle.sc_sched.specs.Ranks.{timed_gates, StartsAt, HoldsGate, IsRank}
-use Rattle.sc_sched.specs.Step.{Shop, size, needed, fits, beside, IsStep, IsOrder}
+use Rattle.sc_sched.specs.Step.{size, needed, fits, beside, IsStep, IsOrder}
 use Rattle.sc_sched.specs.Schedule.{ready, cut, IsPriority}
 use Rattle.sc_sched.specs.PrioritySchedules.{shop_of_gates, IsPrioritySchedule, IsRankOrder}
 use Rattle.sc_sched.proofs.Step.{fits_same}
@@ -38,9 +38,11 @@ cut_order gates k d f g c = refl
 
 step_order : (gates : List Gate) (k d : ℕ) (f g : ℕ → ℕ → Bool) (ready c : ℕ → Bool) → ((x y : ℕ) → x < length gates → y < length gates → f x y ≡ g x y) →
     IsStep (shop_of_gates gates k d f) ready c → IsStep (shop_of_gates gates k d g) ready c
-step_order gates k d f g ready c same h = record { exact = λ x l. h.exact x l ∙ ap (λ (v : Bool). ready x && v)
-    (fits_order gates k d f g (beside (shop_of_gates gates k d f) c x)
-      ∙ fits_same (shop_of_gates gates k d g) (beside (shop_of_gates gates k d f) c x) (beside (shop_of_gates gates k d g) c x) (λ y b. ap (λ (v : Bool). (y == x) || (c y && v)) (same y x b l))) }
+step_order gates k d f g ready c same h = record {
+  exact = λ x l. h.exact x l ∙ ap (λ (v : Bool). ready x && v)
+      (fits_order gates k d f g (beside (shop_of_gates gates k d f) c x)
+      ∙ fits_same (shop_of_gates gates k d g) (beside (shop_of_gates gates k d f) c x) (beside (shop_of_gates gates k d g) c x) (λ y b. ap (λ (v : Bool). (y == x) || (c y && v)) (same y x b l)));
+}
 
 pub priority_order : (gates : List Gate) (k d : ℕ) (f g : ℕ → ℕ → Bool) (steps : List Step) → ((x y : ℕ) → x < length gates → y < length gates → f x y ≡ g x y) →
     IsPriority (shop_of_gates gates k d f) steps → IsPriority (shop_of_gates gates k d g) steps
@@ -48,19 +50,21 @@ priority_order gates k d f g steps same h = record {
   everywhere = h.everywhere;
   not_empty = h.not_empty;
   exact = λ earlier step later e. step_order gates k d f g (ready (shop_of_gates gates k d f) earlier) (stands_in step) same (h.exact earlier step later e);
-  regions = λ earlier step later e. h.regions earlier step later e ∙ cut_order gates k d f g (stands_in step); }
+  regions = λ earlier step later e. h.regions earlier step later e ∙ cut_order gates k d f g (stands_in step);
+}
 
 pub order_of_ranks : (comes : Rank → Rank → Bool) (gates : List Gate) (k d : ℕ) (rank : ℕ → Rank) → IsRankOrder comes → ((x : ℕ) → x < length gates → (rank x).position ≡ x) →
     IsOrder (shop_of_gates gates k d (λ x y. comes (rank x) (rank y)))
 order_of_ranks comes gates k d rank o at = record {
   irreflexive = λ x. o.irreflexive (rank x);
   transitive = λ x y z a b. o.transitive (rank x) (rank y) (rank z) a b;
-  total = λ x y l b p q. sym (at x l) ∙ (o.total (rank x) (rank y) p q ∙ at y b); }
+  total = λ x y l b p q. sym (at x l) ∙ (o.total (rank x) (rank y) p q ∙ at y b);
+}
 
 pub only_schedule : (comes : Rank → Rank → Bool) (times : List ℕ) (gates : List Gate) (k d : ℕ) (xs ys : List Step) → IsRankOrder comes →
     IsPrioritySchedule comes times gates k d xs → IsPrioritySchedule comes times gates k d ys → xs ≡ ys
 only_schedule comes times gates k d xs ys o p q =
     let same : (x : ℕ) → x < length gates → q.rank x ≡ p.rank x = λ x l. rank_unique times gates x (q.rank x) (p.rank x) (q.ranked x l) (p.ranked x l) in
     one_schedule (shop_of_gates gates k d (λ x y. comes (p.rank x) (p.rank y))) (order_of_ranks comes gates k d p.rank o (λ x l. (p.ranked x l).position)) xs ys p.taken
-      (priority_order gates k d (λ x y. comes (q.rank x) (q.rank y)) (λ x y. comes (p.rank x) (p.rank y)) ys
-        (λ x y l b. ap (λ (r : Rank). comes r (q.rank y)) (same x l) ∙ ap (comes (p.rank x)) (same y b)) q.taken)
+    (priority_order gates k d (λ x y. comes (q.rank x) (q.rank y)) (λ x y. comes (p.rank x) (p.rank y)) ys
+    (λ x y l b. ap (λ (r : Rank). comes r (q.rank y)) (same x l) ∙ ap (comes (p.rank x)) (same y b)) q.taken)

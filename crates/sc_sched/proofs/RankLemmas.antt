@@ -1,14 +1,13 @@
 -- Every gate has a rank: the heaviest chains that start at it, end at it and hold it.
-use Rattle.std.proofs.Common.{◌≡◌, ℕ, zero, suc, ◌+◌, ◌-◌, ◌<◌, ◌≤◌, Bool, true, false, Option, Some, None, List, [], ◌∷◌, ◌++◌, length, get_or, map, refl, sym, ap, ◌∙◌, subst, arith, ◌⊎◌, inl, inr}
-use Rattle.std.specs.Prelude.{slice_get, Contains, max}
-use Rattle.std.proofs.lemmas.Bool.{false≢true, cases_Bool, cases_lt}
+use Rattle.std.proofs.Common.{◌≡◌, ℕ, zero, suc, ◌+◌, ◌-◌, ◌<◌, ◌≤◌, Bool, true, Option, Some, None, List, [], ◌∷◌, ◌++◌, refl, sym, ap, ◌∙◌, subst, arith, ◌⊎◌, inl, inr}
+use Rattle.std.specs.Prelude.{Contains, max}
+use Rattle.std.proofs.lemmas.Bool.{false≢true, cases_Bool}
 use Rattle.sc_gate.specs.declared.gate.Wire.{Wire}
 use Rattle.sc_gate.specs.declared.gate.Gate.{Gate}
-use Rattle.sc_gate.specs.Chains.{Timed, timed, meets_at, weight_at, Depend, Linked, last_of, weight_of, Greatest, more, plus}
+use Rattle.sc_gate.specs.Chains.{Timed, meets_at, weight_at, Depend, Linked, last_of, weight_of, Greatest, more, plus}
 use Rattle.sc_gate.proofs.Greatest.{greatest_none, greatest_either, greatest_same, greatest_one, greatest_sum, SumOf}
-use Rattle.sc_sched.specs.declared.order.Rank.{Rank}
-use Rattle.sc_sched.specs.Gates.{has_wire, shares}
-use Rattle.sc_sched.specs.Ranks.{timed_gates, StartsAt, HoldsGate, IsRank}
+use Rattle.sc_sched.specs.Gates.{shares}
+use Rattle.sc_sched.specs.Ranks.{timed_gates, StartsAt, HoldsGate}
 use Rattle.sc_sched.proofs.Count.{lt_cases}
 use Rattle.sc_sched.proofs.LastOn.{has_at, SharedWire, shared_wire, shares_by}
 
@@ -55,7 +54,8 @@ module _ (t : List Timed) where
   starts_from x n (inr (a, b, e, o, w)) = record {
     rest = o.next ∷ o.chain.rest;
     linked = (o.later, o.depend, o.chain.linked);
-    weighs = (let i : b ≡ weight_of t o.next o.chain.rest = o.chain.weighs in omega (arith, e, w, i)); }
+    weighs = (let i : b ≡ weight_of t o.next o.chain.rest = o.chain.weighs in omega (arith, e, w, i));
+  }
 
   -- a chain that ends at a gate is the gate alone or comes from an earlier gate on which it depends
   pub record Before (x n : ℕ) : Type 0 where
@@ -76,8 +76,15 @@ module _ (t : List Timed) where
   ends_from x n (inr (a, b, e, o, w)) =
       let c : FromTo o.chain.first o.from b = o.chain.chain in
       let r = one_more o.chain.first o.from x c.rest c.linked c.last o.earlier o.depend in
-      record { first = o.chain.first; chain = record { rest = c.rest ++ x ∷ []; linked = r.0; last = r.1;
-        weighs = (let i : b ≡ weight_of t o.chain.first c.rest = c.weighs in let j : weight_of t o.chain.first (c.rest ++ x ∷ []) ≡ weight_of t o.chain.first c.rest + weight_at t x = r.2 in omega (arith, e, w, i, j)) } }
+      record {
+        first = o.chain.first;
+        chain = record {
+          rest = c.rest ++ x ∷ [];
+          linked = r.0;
+          last = r.1;
+          weighs = (let i : b ≡ weight_of t o.chain.first c.rest = c.weighs in let j : weight_of t o.chain.first (c.rest ++ x ∷ []) ≡ weight_of t o.chain.first c.rest + weight_at t x = r.2 in omega (arith, e, w, i, j));
+        };
+      }
 
   -- the last link of a chain of two gates or more
   last_link : (p q x : ℕ) (rest : List ℕ) → p < q → Depend t p q → Linked t q rest → last_of q rest ≡ x →
@@ -101,9 +108,11 @@ module _ (t : List Timed) where
       Linked t p (rest ++ back) × (weight_of t p (rest ++ back) + weight_at t x ≡ weight_of t p rest + weight_of t x back) × ((p ≡ x) ⊎ Contains (rest ++ back) x)
   joined_at p x a b [] back l e k = (subst (λ (z : ℕ). Linked t z back) (sym e) k, (let w : weight_of t p back ≡ weight_of t x back = ap (λ (z : ℕ). weight_of t z back) e in let v : weight_at t p ≡ weight_at t x = ap (weight_at t) e in omega (arith, w, v)), inl e)
   joined_at p x a b (q ∷ rest) back l e k =
-      let r = joined_at q x a b rest back l.2 e k in
-      ((l.0, l.1, r.0), (let w : weight_of t q (rest ++ back) + weight_at t x ≡ weight_of t q rest + weight_of t x back = r.1 in omega (arith, w)),
-        inr (elim r.2 [ inl h ↦ (0, omega arith, h) | inr (i, b, f) ↦ (suc i, omega (arith, b), f) ]))
+      let r = joined_at q x a b rest back l.2 e k in (
+        (l.0, l.1, r.0),
+        (let w : weight_of t q (rest ++ back) + weight_at t x ≡ weight_of t q rest + weight_of t x back = r.1 in omega (arith, w)),
+        inr (elim r.2 [ inl h ↦ (0, omega arith, h) | inr (i, b, f) ↦ (suc i, omega (arith, b), f) ]),
+      )
 
   pub record Halves (x n : ℕ) : Type 0 where
     pub ends : ℕ
@@ -114,8 +123,13 @@ module _ (t : List Timed) where
 
   halves_by : (p x : ℕ) (rest : List ℕ) → Linked t p rest → (p ≡ x) ⊎ Contains rest x →
       ((a : ℕ) × (b : ℕ) × FromTo p x a × StartsAt t x b × (weight_of t p rest + weight_at t x ≡ a + b))
-  halves_by p x rest l (inl e) = (weight_at t x, weight_of t x rest, record { rest = []; linked = tt; last = e; weighs = ap (weight_at t) (sym e) },
-      record { rest = rest; linked = subst (λ (z : ℕ). Linked t z rest) e l; weighs = refl }, (let w : weight_of t p rest ≡ weight_of t x rest = ap (λ (z : ℕ). weight_of t z rest) e in omega (arith, w)))
+  halves_by p x rest l (inl e) = (
+    weight_at t x,
+    weight_of t x rest,
+    record { rest = []; linked = tt; last = e; weighs = ap (weight_at t) (sym e) },
+    record { rest = rest; linked = subst (λ (z : ℕ). Linked t z rest) e l; weighs = refl },
+    (let w : weight_of t p rest ≡ weight_of t x rest = ap (λ (z : ℕ). weight_of t z rest) e in omega (arith, w)),
+  )
   halves_by p x [] l (inr (i, b, f)) = absurd (omega (arith, b))
   halves_by p x (q ∷ rest) l (inr h) =
       let (a, b, c, d, w) = halves_by q x rest l.2 (first_or_later q x rest h) in
@@ -129,12 +143,18 @@ module _ (t : List Timed) where
   pub through_by : (x a b : ℕ) → Greatest (EndsAt x) (Some a) → Greatest (StartsAt t x) (Some b) → weight_at t x ≤ a → Greatest (HoldsGate t x) (Some (a + b - weight_at t x))
   through_by x a b g h heavy = record {
     reached = (let e : EndsAt x a = g.reached in let s : StartsAt t x b = h.reached in
-      let r = joined_at e.first x a b e.chain.rest s.rest e.chain.linked e.chain.last s.linked in
-      record { first = e.first; rest = e.chain.rest ++ s.rest; linked = r.0; holds = r.2;
-        weighs = (let w : weight_of t e.first (e.chain.rest ++ s.rest) + weight_at t x ≡ weight_of t e.first e.chain.rest + weight_of t x s.rest = r.1 in
-          let u : a ≡ weight_of t e.first e.chain.rest = e.chain.weighs in let v : b ≡ weight_of t x s.rest = s.weighs in omega (arith, w, u, v)) });
+        let r = joined_at e.first x a b e.chain.rest s.rest e.chain.linked e.chain.last s.linked in
+        record {
+          first = e.first;
+          rest = e.chain.rest ++ s.rest;
+          linked = r.0;
+          holds = r.2;
+          weighs = (let w : weight_of t e.first (e.chain.rest ++ s.rest) + weight_at t x ≡ weight_of t e.first e.chain.rest + weight_of t x s.rest = r.1 in
+              let u : a ≡ weight_of t e.first e.chain.rest = e.chain.weighs in let v : b ≡ weight_of t x s.rest = s.weighs in omega (arith, w, u, v));
+        });
     bounds = λ m c. (let (i, j, f, s, w) = halves_by c.first x c.rest c.linked c.holds in
-      let p : i ≤ a = g.bounds i (record { first = c.first; chain = f }) in let q : j ≤ b = h.bounds j s in let e : m ≡ weight_of t c.first c.rest = c.weighs in omega (arith, p, q, e, w)); }
+        let p : i ≤ a = g.bounds i (record { first = c.first; chain = f }) in let q : j ≤ b = h.bounds j s in let e : m ≡ weight_of t c.first c.rest = c.weighs in omega (arith, p, q, e, w));
+  }
 
   -- the heaviest, if there is one, of those that go on
   pub heaviest_start : (x : ℕ) (o : Option ℕ) → Greatest (Onward x) o → (n : ℕ) × Greatest (StartsAt t x) (Some n)
@@ -168,13 +188,18 @@ greatest_below test P zero h = (None, greatest_none (Below test P 0) (λ m s. ab
 greatest_below test P (suc b) h =
     let (o, g) = greatest_below test P b (λ y l t. h y (omega (arith, l)) t) in
     elim (cases_Bool (test b)) [
-      inl t ↦ (let (n, k) = h b (omega arith) t in
-        (more o (Some n), greatest_same (λ m. Below test P b m ⊎ P b m) (Below test P (suc b)) (more o (Some n)) (λ m s. up m t s) (λ m s. down m s) (greatest_either (Below test P b) (P b) o (Some n) g k)))
-    | inr f ↦ (o, greatest_same (Below test P b) (Below test P (suc b)) o (λ m s. record { at = s.at; below = omega (arith, s.below); passes = s.passes; is = s.is })
-        (λ m s. elim (lt_cases s.at b s.below) [ inl e ↦ absurd (false≢true (sym f ∙ (ap test (sym e) ∙ s.passes))) | inr l ↦ record { at = s.at; below = l; passes = s.passes; is = s.is } ]) g) ]
+      | inl t ↦ (let (n, k) = h b (omega arith) t in
+          (more o (Some n), greatest_same (λ m. Below test P b m ⊎ P b m) (Below test P (suc b)) (more o (Some n)) (λ m s. up m t s) (λ m s. down m s) (greatest_either (Below test P b) (P b) o (Some n) g k)))
+      | inr f ↦ (
+        o,
+        greatest_same (Below test P b) (Below test P (suc b)) o (λ m s. record { at = s.at; below = omega (arith, s.below); passes = s.passes; is = s.is })
+            (λ m s. elim (lt_cases s.at b s.below) [ inl e ↦ absurd (false≢true (sym f ∙ (ap test (sym e) ∙ s.passes))) | inr l ↦ record { at = s.at; below = l; passes = s.passes; is = s.is } ]) g,
+      )
+    ]
   where
     up : (m : ℕ) → test b ≡ true → Below test P b m ⊎ P b m → Below test P (suc b) m
     up m t (inl s) = record { at = s.at; below = omega (arith, s.below); passes = s.passes; is = s.is }
     up m t (inr p) = record { at = b; below = omega arith; passes = t; is = p }
+
     down : (m : ℕ) → Below test P (suc b) m → Below test P b m ⊎ P b m
     down m s = elim (lt_cases s.at b s.below) [ inl e ↦ inr (subst (λ (z : ℕ). P z m) e s.is) | inr l ↦ inl (record { at = s.at; below = l; passes = s.passes; is = s.is }) ]

@@ -1,13 +1,13 @@
 -- What the regions of a cut step hold.
-use Rattle.std.proofs.Common.{◌≡◌, ℕ, zero, suc, ◌+◌, ◌*◌, ◌/◌, ◌<◌, ◌≤◌, Bool, true, false, List, [], ◌∷◌, ◌++◌, length, take, drop, refl, sym, ap, ◌∙◌, subst, arith, ◌⊎◌, inl, inr, ◌&&◌}
+use Rattle.std.proofs.Common.{◌≡◌, ℕ, zero, suc, ◌<◌, ◌≤◌, Bool, true, List, [], ◌∷◌, length, take, drop, arith, inl, inr, ◌&&◌}
 use Rattle.std.specs.Prelude.{All}
 use Rattle.std.specs.List.{filter, flat_map}
-use Rattle.std.proofs.lemmas.Bool.{false≢true, cases_Bool}
+use Rattle.std.proofs.lemmas.Bool.{cases_Bool}
 use Rattle.std.proofs.lemmas.List.Elements.{All-append, All-cons, All-nil, All-weaker}
 use Rattle.sc_sched.specs.Step.{Shop}
-use Rattle.sc_sched.specs.Legal.{Region, Step}
-use Rattle.sc_sched.specs.Schedule.{positions, pieces, of_kind, leads, cut}
-use Rattle.sc_sched.proofs.Count.{and_left, and_right}
+use Rattle.sc_sched.specs.Legal.{Region}
+use Rattle.sc_sched.specs.Schedule.{positions, pieces, of_kind, cut}
+use Rattle.sc_sched.proofs.Count.{and_right}
 
 -- gates of one kind, as many as a region takes
 pub record IsRegion {K : Type 0} (s : Shop K) (region : Region) : Type 0 where
@@ -36,7 +36,7 @@ pieces_are P zero size xs h = All-nil (λ region. All P region × (length region
 pieces_are P (suc fuel) size [] h = All-nil (λ region. All P region × (length region ≤ size))
 pieces_are P (suc fuel) size (x ∷ xs) h =
     All-cons (λ region. All P region × (length region ≤ size)) (take size (x ∷ xs)) (pieces fuel size (drop size (x ∷ xs)))
-      (all_take P size (x ∷ xs) h, take_few size (x ∷ xs)) (pieces_are P fuel size (drop size (x ∷ xs)) (all_drop P size (x ∷ xs) h))
+    (all_take P size (x ∷ xs) h, take_few size (x ∷ xs)) (pieces_are P fuel size (drop size (x ∷ xs)) (all_drop P size (x ∷ xs) h))
 
 all_flat : {A B : Type 0} (P : B → Type 0) (f : A → List B) (xs : List A) → ((x : A) → All P (f x)) → All P (flat_map f xs)
 all_flat P f [] h = All-nil P
@@ -50,13 +50,14 @@ positions_below (suc n) = All-append (λ y. y < suc n) (positions n) (n ∷ []) 
 all_filter : (P : ℕ → Type 0) (test : ℕ → Bool) (xs : List ℕ) → All P xs → All (λ y. P y × (test y ≡ true)) (filter test xs)
 all_filter P test [] h = All-nil (λ y. P y × (test y ≡ true))
 all_filter P test (x ∷ xs) h = elim (cases_Bool (test x)) [
-    inl t ↦ rw t (All-cons (λ y. P y × (test y ≡ true)) x (filter test xs) (h 0 x (omega arith), t) (all_filter P test xs (λ k d l. h (suc k) d (omega (arith, l)))))
-  | inr f ↦ rw f (all_filter P test xs (λ k d l. h (suc k) d (omega (arith, l)))) ]
+  | inl t ↦ rw t (All-cons (λ y. P y × (test y ≡ true)) x (filter test xs) (h 0 x (omega arith), t) (all_filter P test xs (λ k d l. h (suc k) d (omega (arith, l)))))
+  | inr f ↦ rw f (all_filter P test xs (λ k d l. h (suc k) d (omega (arith, l))))
+]
 
 pub cut_regions : {K : Type 0} (s : Shop K) (chosen : ℕ → Bool) → All (IsRegion s) (cut s chosen)
 unfolding cut
 cut_regions s chosen = all_flat (IsRegion s) _ _ (λ x.
     All-weaker (λ region. All (λ y. (y < s.gates) × ((chosen y && s.is (s.kind_of x) y) ≡ true)) region × (length region ≤ s.room (s.kind_of x))) (IsRegion s)
-      (λ region h. record { kind = s.kind_of x; of_kind = All-weaker (λ (y : ℕ). (y < s.gates) × ((chosen y && s.is (s.kind_of x) y) ≡ true)) (λ (y : ℕ). (y < s.gates) × (s.is (s.kind_of x) y ≡ true)) (λ y p. (p.0, and_right (chosen y) _ p.1)) region h.0; fits = h.1 })
-      (pieces s.gates (s.room (s.kind_of x)) (of_kind s chosen (s.kind_of x)))
-      (pieces_are (λ (y : ℕ). (y < s.gates) × ((chosen y && s.is (s.kind_of x) y) ≡ true)) s.gates (s.room (s.kind_of x)) (of_kind s chosen (s.kind_of x)) (all_filter (λ y. y < s.gates) (λ y. chosen y && s.is (s.kind_of x) y) (positions s.gates) (positions_below s.gates))))
+    (λ region h. record { kind = s.kind_of x; of_kind = All-weaker (λ (y : ℕ). (y < s.gates) × ((chosen y && s.is (s.kind_of x) y) ≡ true)) (λ (y : ℕ). (y < s.gates) × (s.is (s.kind_of x) y ≡ true)) (λ y p. (p.0, and_right (chosen y) _ p.1)) region h.0; fits = h.1 })
+    (pieces s.gates (s.room (s.kind_of x)) (of_kind s chosen (s.kind_of x)))
+    (pieces_are (λ (y : ℕ). (y < s.gates) × ((chosen y && s.is (s.kind_of x) y) ≡ true)) s.gates (s.room (s.kind_of x)) (of_kind s chosen (s.kind_of x)) (all_filter (λ y. y < s.gates) (λ y. chosen y && s.is (s.kind_of x) y) (positions s.gates) (positions_below s.gates))))

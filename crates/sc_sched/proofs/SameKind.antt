@@ -1,11 +1,8 @@
 -- Kinds with the same name and value are equal.
-use Rattle.std.proofs.Common.{◌≡◌, ℕ, Bool, true, false, ℤ, pos, List, [], ◌∷◌, refl, sym, ap, ◌∙◌, slice_index_or}
-use Rattle.std.specs.Prelude.{◌==◌, ◌&&◌, int_lt, not}
-use Rattle.std.specs.Ordering.{int_eq}
-use Rattle.std.specs.Cmp.{IsEquivalence}
-use Rattle.std.proofs.lemmas.Bool.{false≢true, cases_Bool, eqb-true, eq-eqb}
+use Rattle.std.proofs.Common.{◌≡◌, ℕ, true, false, ℤ, pos, [], ◌∷◌, refl, sym, ap, ◌∙◌, slice_index_or}
+use Rattle.std.specs.Prelude.{◌==◌, int_lt}
+use Rattle.std.proofs.lemmas.Bool.{eqb-true, eq-eqb}
 use Rattle.std.proofs.lemmas.Bool.Decides.{Decides-int_eq}
-use Rattle.std.proofs.lemmas.Cmp.{int_eq_equiv}
 use Rattle.sc_base.specs.declared.names.Fixed.{Fixed}
 use Rattle.sc_gate.specs.declared.gate.Kind.{Kind}
 use Rattle.sc_gate.specs.declared.gate.Kind.TheVariants.{X, Y, Z, H, S, T, Sdag, Tdag, Cnot, Toffoli, Fredkin, Rx, Ry, Rz, PrepX, PrepZ, MeasX, MeasZ}

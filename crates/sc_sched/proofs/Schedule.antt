@@ -1,14 +1,12 @@
 -- A list of gates has one priority schedule.
-use Rattle.std.proofs.Common.{◌≡◌, ℕ, zero, suc, ◌+◌, ◌<◌, ◌≤◌, Bool, true, false, cond, List, [], ◌∷◌, ◌++◌, refl, sym, ap, ◌∙◌, subst, arith, rules, append_assoc, append-nil, ◌⊎◌, inl, inr, ◌&&◌, ◌||◌, not}
-use Rattle.std.specs.Prelude.{◌==◌}
-use Rattle.std.specs.List.{filter, list_any, flat_map}
-use Rattle.std.proofs.lemmas.List.Folds.{list_any-append}
-use Rattle.std.proofs.lemmas.Bool.{false≢true, cases_Bool}
+use Rattle.std.proofs.Common.{◌≡◌, ℕ, zero, suc, ◌<◌, Bool, true, false, cond, List, [], ◌∷◌, ◌++◌, refl, sym, ap, ◌∙◌, arith, append_assoc, append-nil, ◌&&◌, not}
+use Rattle.std.specs.List.{filter, flat_map}
+use Rattle.std.proofs.lemmas.Bool.{false≢true}
 use Rattle.std.proofs.lemmas.List.Elements.{filter-append}
-use Rattle.sc_sched.specs.Step.{Shop, IsStep, IsOrder}
-use Rattle.sc_sched.specs.Legal.{Step, Region, stands_in, placed}
+use Rattle.sc_sched.specs.Step.{Shop, IsOrder}
+use Rattle.sc_sched.specs.Legal.{Step, stands_in, placed}
 use Rattle.sc_sched.specs.Schedule.{all_below, ready, pieces, positions, of_kind, leads, cut, IsPriority}
-use Rattle.sc_sched.proofs.Count.{and_left, and_right, both, either, or_left, or_right, same_truth}
+use Rattle.sc_sched.proofs.Count.{and_left}
 use Rattle.sc_sched.proofs.Step.{step_unique}
 
 one_kept : (v : Bool) (x : ℕ) → cond v (x ∷ []) [] ≡ cond v (x ∷ []) []
@@ -37,8 +35,8 @@ pub cut_same : {K : Type 0} (s : Shop K) (c c' : ℕ → Bool) → ((y : ℕ) �
 unfolding cut
 cut_same s c c' h =
     let a : filter (leads s c) (positions s.gates) ≡ filter (leads s c') (positions s.gates) =
-      filter_all _ _ s.gates (λ x l. ap (λ (v : Bool). v && all_below (λ y. not (c y && s.is (s.kind_of x) y)) x) (h x l)
-        ∙ ap (λ (v : Bool). c' x && v) (all_same _ _ x (λ y k. ap (λ (v : Bool). not (v && s.is (s.kind_of x) y)) (h y (omega (arith, k, l)))))) in
+    filter_all _ _ s.gates (λ x l. ap (λ (v : Bool). v && all_below (λ y. not (c y && s.is (s.kind_of x) y)) x) (h x l)
+    ∙ ap (λ (v : Bool). c' x && v) (all_same _ _ x (λ y k. ap (λ (v : Bool). not (v && s.is (s.kind_of x) y)) (h y (omega (arith, k, l)))))) in
     ap (flat_map (λ x. pieces s.gates (s.room (s.kind_of x)) (of_kind s c (s.kind_of x)))) a
     ∙ flat_same _ _ _ (λ x. ap (pieces s.gates (s.room (s.kind_of x))) (filter_all _ _ s.gates (λ y l. ap (λ (v : Bool). v && s.is (s.kind_of x) y) (h y l))))
 

@@ -1,10 +1,10 @@
 -- The rank of every gate of a list.
-use Rattle.std.proofs.Common.{◌≡◌, ℕ, zero, suc, ◌+◌, ◌-◌, ◌<◌, ◌≤◌, Bool, true, false, Option, Some, None, List, [], ◌∷◌, length, refl, sym, ap, ◌∙◌, arith, ◌⊎◌, inl, inr, ◌&&◌}
+use Rattle.std.proofs.Common.{◌≡◌, ℕ, zero, suc, ◌+◌, ◌-◌, ◌<◌, ◌≤◌, Bool, true, Some, List, [], ◌∷◌, length, refl, arith, ◌⊎◌, inl, inr, ◌&&◌}
 use Rattle.std.specs.Prelude.{nat_lt}
 use Rattle.std.proofs.lemmas.Bool.{false≢true, cases_lt, lt-ltb, ltb-true}
 use Rattle.sc_gate.specs.declared.gate.Wire.{Wire}
 use Rattle.sc_gate.specs.declared.gate.Gate.{Gate}
-use Rattle.sc_gate.specs.Chains.{Timed, Depend, Greatest, weight_at}
+use Rattle.sc_gate.specs.Chains.{Greatest, weight_at}
 use Rattle.sc_gate.proofs.Greatest.{greatest_same}
 use Rattle.sc_sched.specs.declared.order.Rank.{Rank}
 use Rattle.sc_sched.specs.Gates.{shares}
@@ -42,7 +42,7 @@ module _ (times : List ℕ) (gates : List Gate) where
   start_of zero x l b = absurd (omega (arith, l, b))
   start_of (suc fuel) x l b =
       let (o, g) = greatest_below (later_test x) (StartsAt (timed_gates times gates)) (length gates)
-        (λ y c e. start_of fuel y c (let k : x < y = ltb-true x y (and_left (nat_lt x y) _ e) in omega (arith, k, b))) in
+      (λ y c e. start_of fuel y c (let k : x < y = ltb-true x y (and_left (nat_lt x y) _ e) in omega (arith, k, b))) in
       heaviest_start (timed_gates times gates) x o (greatest_same (Below (later_test x) (StartsAt (timed_gates times gates)) (length gates)) (Onward (timed_gates times gates) x) o (onward_from x) (onward_to x) g)
 
   before_from : (x m : ℕ) → Below (λ y. shares gates y x) (EndsAt (timed_gates times gates)) x m → Before (timed_gates times gates) x m
@@ -60,9 +60,10 @@ module _ (times : List ℕ) (gates : List Gate) where
   some_rank : (x : ℕ) → x < length gates → (r : Rank) × IsRank (timed_gates times gates) x r
   some_rank x l =
       let (a, g) = end_of (suc x) x (omega arith) in
-      let (b, h) = start_of (length gates) x l (omega arith) in
-      (record { height = b; through = a + b - weight_at (timed_gates times gates) x; position = x },
-        record { height = h; through = through_by (timed_gates times gates) x a b g h (end_heavy (timed_gates times gates) x a g); position = refl })
+      let (b, h) = start_of (length gates) x l (omega arith) in (
+        record { height = b; through = a + b - weight_at (timed_gates times gates) x; position = x },
+        record { height = h; through = through_by (timed_gates times gates) x a b g h (end_heavy (timed_gates times gates) x a g); position = refl },
+      )
 
   no_rank : Rank
   no_rank = record { height = 0; through = 0; position = 0 }

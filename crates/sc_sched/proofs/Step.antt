@@ -1,11 +1,11 @@
 -- One step has one answer: chosen gates that meet the rule are determined, and there are such.
-use Rattle.std.proofs.Common.{◌≡◌, ℕ, zero, suc, ◌+◌, ◌-◌, ◌<◌, ◌≤◌, Bool, true, false, cond, List, [], ◌∷◌, refl, sym, ap, ◌∙◌, subst, arith, rules, ◌⊎◌, inl, inr, ◌&&◌, ◌||◌, eqb, leb}
+use Rattle.std.proofs.Common.{◌≡◌, ℕ, zero, suc, ◌+◌, ◌<◌, ◌≤◌, Bool, true, false, List, [], ◌∷◌, refl, sym, ap, ◌∙◌, arith, inl, inr, ◌&&◌, ◌||◌}
 use Rattle.std.specs.Prelude.{◌==◌, nat_le}
 use Rattle.std.specs.List.{sum_by}
 use Rattle.std.proofs.lemmas.List.Sums.{sum_by-cons}
 use Rattle.std.proofs.lemmas.Bool.{false≢true, cases_Bool}
 use Rattle.sc_sched.specs.Step.{count_below, div_up, Shop, size, needed, fits, beside, IsStep, IsOrder}
-use Rattle.sc_sched.proofs.Count.{count_below_le, count_below_same, count_below_lt, and_left, and_right, both, either, or_left, or_right, same_truth}
+use Rattle.sc_sched.proofs.Count.{count_below_same, count_below_lt, and_right, either, or_left, same_truth}
 
 pub size_same : {K : Type 0} (s : Shop K) (c c' : ℕ → Bool) (kind : K) → ((y : ℕ) → y < s.gates → c y ≡ c' y) → size s c kind ≡ size s c' kind
 unfolding size
@@ -40,10 +40,11 @@ place_lt s o y x b h =
 beside_same : {K : Type 0} (s : Shop K) (c c' : ℕ → Bool) (x y : ℕ) → (s.before y x ≡ true → c y ≡ c' y) → beside s c x y ≡ beside s c' x y
 beside_same s c c' x y h =
     elim (cases_Bool (s.before y x)) [
-      inl t ↦ ap (λ (v : Bool). (y == x) || (v && s.before y x)) (h t)
-    | inr f ↦ rw f (same_truth _ _
-        (λ k. elim (either (y == x) _ k) [ inl e ↦ or_left _ _ e | inr u ↦ absurd (false≢true (and_right (c y) false u)) ])
-        (λ k. elim (either (y == x) _ k) [ inl e ↦ or_left _ _ e | inr u ↦ absurd (false≢true (and_right (c' y) false u)) ])) ]
+      | inl t ↦ ap (λ (v : Bool). (y == x) || (v && s.before y x)) (h t)
+      | inr f ↦ rw f (same_truth _ _
+          (λ k. elim (either (y == x) _ k) [ inl e ↦ or_left _ _ e | inr u ↦ absurd (false≢true (and_right (c y) false u)) ])
+          (λ k. elim (either (y == x) _ k) [ inl e ↦ or_left _ _ e | inr u ↦ absurd (false≢true (and_right (c' y) false u)) ]))
+    ]
 
 pub tried_same : {K : Type 0} (s : Shop K) (ready c c' : ℕ → Bool) (x : ℕ) → ((y : ℕ) → y < s.gates → s.before y x ≡ true → c y ≡ c' y) → (ready x && fits s (beside s c x)) ≡ (ready x && fits s (beside s c' x))
 tried_same s ready c c' x h = ap (λ (v : Bool). ready x && v) (fits_same s (beside s c x) (beside s c' x) (λ y b. beside_same s c c' x y (h y b)))
@@ -76,7 +77,9 @@ count_all p (suc n) = let a : count_below p n ≤ n = count_all p n in elim (cas
 -- at least one
 pub step_exists : {K : Type 0} (s : Shop K) (o : IsOrder s) (ready : ℕ → Bool) → IsStep s ready (pick s ready (suc s.gates))
 unfolding pick place
-step_exists s o ready = record { exact = λ x b. tried_same s ready (pick s ready s.gates) (pick s ready (suc s.gates)) x
-    (λ y d q. let f : place s y < place s x = place_lt s o y x d q in
+step_exists s o ready = record {
+  exact = λ x b. tried_same s ready (pick s ready s.gates) (pick s ready (suc s.gates)) x
+      (λ y d q. let f : place s y < place s x = place_lt s o y x d q in
       let k : place s x ≤ s.gates = count_all (λ y. s.before y x) s.gates in
-      stable s o ready s.gates (suc s.gates) y d (omega (arith, f, k)) (omega (arith, f, k))) }
+      stable s o ready s.gates (suc s.gates) y d (omega (arith, f, k)) (omega (arith, f, k)));
+}

@@ -1,16 +1,16 @@
 -- One more gate in a step, and the two loops that make a step.
-use Rattle.std.proofs.Common.{◌≡◌, ℕ, zero, suc, ◌+◌, ◌-◌, ◌/◌, ◌*◌, ◌%◌, ◌<◌, ◌≤◌, Bool, true, false, cond, List, [], ◌∷◌, ◌++◌, refl, sym, ap, ◌∙◌, subst, arith, rules, ◌⊎◌, inl, inr, ◌&&◌, ◌||◌, eqb, leb}
-use Rattle.std.specs.Prelude.{◌==◌, nat_le}
+use Rattle.std.proofs.Common.{◌≡◌, ℕ, zero, suc, ◌+◌, ◌-◌, ◌/◌, ◌*◌, ◌%◌, ◌<◌, ◌≤◌, Bool, true, false, cond, List, [], ◌∷◌, refl, sym, ap, ◌∙◌, arith, ◌⊎◌, inl, inr, ◌&&◌, ◌||◌, eqb}
+use Rattle.std.specs.Prelude.{◌==◌}
 use Rattle.std.specs.List.{sum_by, All}
-use Rattle.std.proofs.lemmas.List.Sums.{sum_by-cons, sum_by-append, sum_by-le-sum_by}
+use Rattle.std.proofs.lemmas.List.Sums.{sum_by-cons}
 use Rattle.std.proofs.lemmas.Bool.{false≢true, cases_Bool, eqb-true, eq-eqb, cases_lt}
 use Rattle.std.proofs.lemmas.List.Elements.{All-head, All-tail, All-weaker}
 use Rattle.std.proofs.lemmas.Nat.{div-add-mod'}
 use Rattle.std.proofs.Math.Nat.{div-eq_of_lt-le, mod-lt}
-use Rattle.sc_sched.specs.Step.{count_below, div_up, Shop, size, needed, fits, beside, IsStep, IsOrder, IsListed, IsShop}
+use Rattle.sc_sched.specs.Step.{count_below, div_up, Shop, size, needed, IsListed, IsShop}
 use Rattle.sc_sched.specs.Rounds.{Filled, Taking, Filling}
-use Rattle.sc_sched.proofs.Count.{count_below_le, count_below_same, count_below_lt, and_left, and_right, both, either, or_left, or_right, same_truth, lt_cases}
-use Rattle.sc_sched.proofs.Fill.{sum_apart, div_up_le, size_le, size_lt, needed_le}
+use Rattle.sc_sched.proofs.Count.{count_below_same, either, or_left, or_right, lt_cases}
+use Rattle.sc_sched.proofs.Fill.{sum_apart}
 
 -- a set with one more number
 abbrev pub with_gate : (ℕ → Bool) → ℕ → ℕ → Bool
@@ -26,15 +26,16 @@ count_with : (p : ℕ → Bool) (n x : ℕ) → x < n → p x ≡ false → coun
 count_with p zero x l f = absurd (omega (arith, l))
 count_with p (suc n) x l f =
     elim (lt_cases x n l) [
-      inl e ↦
-       (let a : count_below (with_gate p x) n ≡ count_below p n = count_with_by p n x (omega (arith, e)) in
-        let t : (n == x) ≡ true = eq-eqb n x (sym e) in
-        let u : p n ≡ false = ap p (sym e) ∙ f in
-        rw (a, t, u) (omega arith))
-    | inr k ↦
-       (let a : count_below (with_gate p x) n ≡ count_below p n + 1 = count_with p n x k f in
-        let t : (n == x) ≡ false = not_eq x n (λ e. omega (arith, e, k)) in
-        rw (a, t) (omega arith)) ]
+      | inl e ↦
+          (let a : count_below (with_gate p x) n ≡ count_below p n = count_with_by p n x (omega (arith, e)) in
+          let t : (n == x) ≡ true = eq-eqb n x (sym e) in
+          let u : p n ≡ false = ap p (sym e) ∙ f in
+          rw (a, t, u) (omega arith))
+      | inr k ↦
+          (let a : count_below (with_gate p x) n ≡ count_below p n + 1 = count_with p n x k f in
+          let t : (n == x) ≡ false = not_eq x n (λ e. omega (arith, e, k)) in
+          rw (a, t) (omega arith))
+    ]
 
 and_false : (a b : Bool) → (a && false) ≡ (b && false)
 and_false true true = refl
@@ -61,16 +62,18 @@ pub size_with : {K : Type 0} (s : Shop K) (c : ℕ → Bool) (x : ℕ) (kind : K
 unfolding size
 size_with s c x kind l f i =
     count_below_same _ (with_gate (λ p. c p && s.is kind p) x) s.gates (λ y b. elim (cases_Bool (y == x)) [
-        inl t ↦ rw (t, ap (s.is kind) (eqb-true y x t) ∙ i) refl
-      | inr u ↦ rw u refl ])
+      | inl t ↦ rw (t, ap (s.is kind) (eqb-true y x t) ∙ i) refl
+      | inr u ↦ rw u refl
+    ])
     ∙ count_with (λ p. c p && s.is kind p) s.gates x l (rw f refl)
 
 pub size_beside : {K : Type 0} (s : Shop K) (c : ℕ → Bool) (x : ℕ) (kind : K) → s.is kind x ≡ false → size s (with_gate c x) kind ≡ size s c kind
 unfolding size
 size_beside s c x kind i =
     count_below_same _ _ s.gates (λ y b. elim (cases_Bool (y == x)) [
-        inl t ↦ rw (ap (s.is kind) (eqb-true y x t) ∙ i) (and_false _ _)
-      | inr u ↦ rw u refl ])
+      | inl t ↦ rw (ap (s.is kind) (eqb-true y x t) ∙ i) (and_false _ _)
+      | inr u ↦ rw u refl
+    ])
 
 -- a rest of 0 means that every region of the kind is full
 pub div_up_more : (m c : ℕ) → 0 < c → div_up (m + 1) c ≡ div_up m c + cond (eqb (m % c) 0) 1 0
@@ -92,7 +95,7 @@ needed_with {K} s o c x l f =
     let a : sum_by n h.front ≡ sum_by m h.front = sum_same n m h.front (All-weaker (λ (kind : K). s.is kind x ≡ false) (λ (kind : K). n kind ≡ m kind) (λ kind i. ap (λ (v : ℕ). div_up v (s.room kind)) (size_beside s c x kind i)) h.front h.not_front) in
     let b : sum_by n h.back ≡ sum_by m h.back = sum_same n m h.back (All-weaker (λ (kind : K). s.is kind x ≡ false) (λ (kind : K). n kind ≡ m kind) (λ kind i. ap (λ (v : ℕ). div_up v (s.room kind)) (size_beside s c x kind i)) h.back h.not_back) in
     let k : n (s.kind_of x) ≡ m (s.kind_of x) + cond (eqb (size s c (s.kind_of x) % s.room (s.kind_of x)) 0) 1 0 =
-      ap (λ (v : ℕ). div_up v (s.room (s.kind_of x))) (size_with s c x (s.kind_of x) l f (o.of_kind x l)) ∙ div_up_more (size s c (s.kind_of x)) (s.room (s.kind_of x)) (o.roomy (s.kind_of x)) in
+    ap (λ (v : ℕ). div_up v (s.room (s.kind_of x))) (size_with s c x (s.kind_of x) l f (o.of_kind x l)) ∙ div_up_more (size s c (s.kind_of x)) (s.room (s.kind_of x)) (o.roomy (s.kind_of x)) in
     omega (arith, a, b, k, sum_apart n s.kinds h.front h.back (s.kind_of x) h.is, sum_apart m s.kinds h.front h.back (s.kind_of x) h.is)
 
 -- a gate of a set with one more is the new one or an old one
@@ -102,14 +105,16 @@ in_with c x y h = elim (either (y == x) (c y) h) [ inl e ↦ inl (eqb-true y x e
 -- what is not in it is neither
 not_in_with : (c : ℕ → Bool) (x y : ℕ) → with_gate c x y ≡ false → (y ≡ x → ⊥) × (c y ≡ false)
 not_in_with c x y h = elim (cases_Bool (y == x)) [
-    inl t ↦ absurd (false≢true (sym h ∙ or_left _ _ t))
-  | inr f ↦ ((λ e. false≢true (sym f ∙ eq-eqb y x e)), rw f at h) ]
+  | inl t ↦ absurd (false≢true (sym h ∙ or_left _ _ t))
+  | inr f ↦ ((λ e. false≢true (sym f ∙ eq-eqb y x e)), rw f at h)
+]
 
 pub taking_none : {K : Type 0} (s : Shop K) (ready : ℕ → Bool) → needed s (λ y. false) ≡ 0 → Taking s ready (λ y. false)
 taking_none s ready z = record {
   only_ready = λ y b h. absurd (false≢true h);
   first = λ y x b c h. absurd (false≢true h);
-  within = omega (arith, z); }
+  within = omega (arith, z);
+}
 
 bit_within : (m n k : ℕ) (v : Bool) → n ≡ m + cond v 1 0 → m < k → n ≤ k
 bit_within m n k true e l = omega (arith, e, l)
@@ -117,11 +122,12 @@ bit_within m n k false e l = omega (arith, e, l)
 
 -- the first gate that is left, where a region is free
 pub taking_more : {K : Type 0} (s : Shop K) (o : IsShop s) (ready taken : ℕ → Bool) (x : ℕ) → Taking s ready taken → x < s.gates → ready x ≡ true → taken x ≡ false →
-  ((z : ℕ) → z < s.gates → ready z ≡ true → taken z ≡ false → (z ≡ x → ⊥) → s.before x z ≡ true) → needed s taken < s.regions → Taking s ready (with_gate taken x)
+    ((z : ℕ) → z < s.gates → ready z ≡ true → taken z ≡ false → (z ≡ x → ⊥) → s.before x z ≡ true) → needed s taken < s.regions → Taking s ready (with_gate taken x)
 taking_more s o ready taken x t b r f least free = record {
   only_ready = λ y d h. elim (in_with taken x y h) [ inl e ↦ rw e r | inr k ↦ t.only_ready y d k ];
   first = λ y z d l h rz nz. let n = not_in_with taken x z nz in elim (in_with taken x y h) [ inl e ↦ rw e (least z l rz n.1 n.0) | inr k ↦ t.first y z d l k rz n.1 ];
-  within = bit_within (needed s taken) (needed s (with_gate taken x)) s.regions _ (needed_with s o taken x b f) free; }
+  within = bit_within (needed s taken) (needed s (with_gate taken x)) s.regions _ (needed_with s o taken x b f) free;
+}
 
 -- where none is left, that is the step
 pub taking_all : {K : Type 0} (s : Shop K) (ready taken : ℕ → Bool) → Taking s ready taken → ((x : ℕ) → x < s.gates → ready x ≡ true → taken x ≡ false → ⊥) → Filled s ready taken taken
@@ -133,7 +139,8 @@ taking_all s ready taken t none = record {
   level = λ kind. refl;
   in_order = λ kind y x b d i j h r f. absurd (none x d r f);
   used_up = λ x b r f. absurd (none x b r f);
-  full = λ x b r f. absurd (none x b r f); }
+  full = λ x b r f. absurd (none x b r f);
+}
 
 pub filling_none : {K : Type 0} (s : Shop K) (ready taken : ℕ → Bool) → Taking s ready taken → needed s taken ≡ s.regions → Filling s ready taken taken
 filling_none s ready taken t e = record {
@@ -142,31 +149,35 @@ filling_none s ready taken t e = record {
   keeps = λ y b h. h;
   only_ready = t.only_ready;
   level = λ kind. refl;
-  in_order = λ kind y x b d i j h r f. t.first y x b d h r f; }
+  in_order = λ kind y x b d i j h r f. t.first y x b d h r f;
+}
 
 -- the first gate that is left of a kind with an open region
 pub filling_more : {K : Type 0} (s : Shop K) (o : IsShop s) (ready taken chosen : ℕ → Bool) (x : ℕ) → Filling s ready taken chosen → x < s.gates → ready x ≡ true → chosen x ≡ false →
-  ((z : ℕ) → z < s.gates → s.is (s.kind_of x) z ≡ true → ready z ≡ true → chosen z ≡ false → (z ≡ x → ⊥) → s.before x z ≡ true) →
-  eqb (size s chosen (s.kind_of x) % s.room (s.kind_of x)) 0 ≡ false → Filling s ready taken (with_gate chosen x)
+    ((z : ℕ) → z < s.gates → s.is (s.kind_of x) z ≡ true → ready z ≡ true → chosen z ≡ false → (z ≡ x → ⊥) → s.before x z ≡ true) →
+    eqb (size s chosen (s.kind_of x) % s.room (s.kind_of x)) 0 ≡ false → Filling s ready taken (with_gate chosen x)
 filling_more s o ready taken chosen x t b r f least open' = record {
   base = t.base;
   used_up = t.used_up;
   keeps = λ y d h. or_right _ _ (t.keeps y d h);
   only_ready = λ y d h. elim (in_with chosen x y h) [ inl e ↦ rw e r | inr k ↦ t.only_ready y d k ];
   level = λ kind. elim (cases_Bool (s.is kind x)) [
-      inl i ↦ (let e : kind ≡ s.kind_of x = o.same_kind x kind b i in
+    | inl i ↦ (let e : kind ≡ s.kind_of x = o.same_kind x kind b i in
         ap (λ (n : ℕ). div_up n (s.room kind)) (size_with s chosen x kind b f i)
         ∙ (div_up_more (size s chosen kind) (s.room kind) (o.roomy kind)
         ∙ (rw e (rw open' (omega arith)) ∙ t.level kind)))
-    | inr i ↦ ap (λ (n : ℕ). div_up n (s.room kind)) (size_beside s chosen x kind i) ∙ t.level kind ];
+    | inr i ↦ ap (λ (n : ℕ). div_up n (s.room kind)) (size_beside s chosen x kind i) ∙ t.level kind
+  ];
   in_order = λ kind y z d l i j h rz nz. let n = not_in_with chosen x z nz in elim (in_with chosen x y h) [
-      inl e ↦ (let k : kind ≡ s.kind_of x = o.same_kind x kind b (sym (ap (s.is kind) e) ∙ i) in
+    | inl e ↦ (let k : kind ≡ s.kind_of x = o.same_kind x kind b (sym (ap (s.is kind) e) ∙ i) in
         rw e (least z l (rw (← k) j) rz n.1 n.0))
-    | inr k ↦ t.in_order kind y z d l i j k rz n.1 ]; }
+    | inr k ↦ t.in_order kind y z d l i j k rz n.1
+  ];
+}
 
 -- where each kind is full or used up, that is the step
 pub filling_all : {K : Type 0} (s : Shop K) (o : IsShop s) (ready taken chosen : ℕ → Bool) → Filling s ready taken chosen →
-  ((x : ℕ) → x < s.gates → ready x ≡ true → chosen x ≡ false → eqb (size s chosen (s.kind_of x) % s.room (s.kind_of x)) 0 ≡ true) → Filled s ready taken chosen
+    ((x : ℕ) → x < s.gates → ready x ≡ true → chosen x ≡ false → eqb (size s chosen (s.kind_of x) % s.room (s.kind_of x)) 0 ≡ true) → Filled s ready taken chosen
 filling_all s o ready taken chosen t done = record {
   keeps = t.keeps;
   only_ready = t.only_ready;
@@ -175,4 +186,5 @@ filling_all s o ready taken chosen t done = record {
   level = t.level;
   in_order = t.in_order;
   used_up = λ x b r f. t.used_up;
-  full = λ x b r f. rw (div_up_more (size s chosen (s.kind_of x)) (s.room (s.kind_of x)) (o.roomy (s.kind_of x)), done x b r f) (omega arith); }
+  full = λ x b r f. rw (div_up_more (size s chosen (s.kind_of x)) (s.room (s.kind_of x)) (o.roomy (s.kind_of x)), done x b r f) (omega arith);
+}

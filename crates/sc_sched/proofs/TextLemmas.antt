@@ -1,11 +1,11 @@
 -- Texts that a loop writes, piece by piece.
-use Rattle.std.proofs.Common.{◌≡◌, ℕ, zero, suc, ◌+◌, ◌<◌, ◌≤◌, Bool, List, [], ◌∷◌, ◌++◌, length, get_or, take, drop, refl, sym, ap, ◌∙◌, arith, add-one, append_assoc, append-nil}
-use Rattle.std.specs.Prelude.{flat_map, decimal, codes}
+use Rattle.std.proofs.Common.{◌≡◌, ℕ, zero, suc, ◌+◌, ◌<◌, ◌≤◌, Bool, List, [], ◌∷◌, ◌++◌, length, get_or, take, drop, refl, sym, ap, ◌∙◌, arith, add-one, append-nil}
+use Rattle.std.specs.Prelude.{flat_map}
 use Rattle.std.proofs.lemmas.List.{take-append-drop, get_or_default}
-use Rattle.std.proofs.Math.Seq.{take-suc, take-length}
+use Rattle.std.proofs.Math.Seq.{take-suc}
 use Rattle.std.proofs.lemmas.List.Concat.{flat_map-append}
 use Rattle.sc_base.specs.Output.{Wrote, WrotePrefix}
-use Rattle.sc_base.proofs.OutputLemmas.{wrote_then, prefix_then, prefix_more, prefix_whole, wrote_as}
+use Rattle.sc_base.proofs.OutputLemmas.{wrote_then, prefix_then, prefix_more, wrote_as}
 
 pub prefix_as : {S : Type 0} {tells : S → Bool} {bytes : S → List ℕ} {old new : S} {x : List ℕ} (text : List ℕ) → text ≡ x → WrotePrefix tells bytes old new x → WrotePrefix tells bytes old new text
 prefix_as text same first = rw same first

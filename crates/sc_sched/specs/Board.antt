@@ -1,5 +1,5 @@
 -- Boards, as contracts see them.
-use Rattle.std.specs.Prelude.{◌≡◌, ℕ, Bool, true, false, slice_index, slice_index_or, List}
+use Rattle.std.specs.Prelude.{ℕ, Bool, false, slice_index, slice_index_or}
 use Rattle.sc_sched.specs.declared.board.Board.{Board}
 use Rattle.sc_sched.specs.Layout.{Layout}
 

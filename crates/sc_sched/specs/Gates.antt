@@ -1,5 +1,5 @@
 -- What a schedule has to know of the gates of a list, by their positions from 0.
-use Rattle.std.specs.Prelude.{ℕ, zero, suc, ◌==◌, ◌&&◌, Bool, true, false, if◌then◌else◌, ℤ, pos, Option, Some, None, List, map, slice_get, slice_index}
+use Rattle.std.specs.Prelude.{ℕ, zero, suc, ◌==◌, ◌&&◌, Bool, false, if◌then◌else◌, ℤ, pos, Option, Some, None, List, map, slice_get, slice_index}
 use Rattle.std.specs.Ordering.{int_eq}
 use Rattle.sc_gate.specs.declared.gate.Wire.{Wire}
 use Rattle.sc_gate.specs.declared.gate.Kind.{Kind}

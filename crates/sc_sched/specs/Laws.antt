@@ -1,7 +1,6 @@
 -- The greater number first is an order.
-use Rattle.std.proofs.Common.{◌≡◌, ℕ, ◌<◌, Bool, true, false, refl, arith, rules, ◌&&◌, ◌||◌, eqb, ltb, inl, inr, ◌⊎◌}
+use Rattle.std.proofs.Common.{◌≡◌, ℕ, true, false, arith}
 use Rattle.std.proofs.lemmas.Grind.{common_steps}
-use Rattle.std.proofs.lemmas.Bool.Decides.{eqb_tells}
 use Rattle.sc_sched.specs.Taken.{greater_first}
 
 pub greater_irreflexive : (m i : ℕ) → greater_first m i m i ≡ false

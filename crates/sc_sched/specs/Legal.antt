@@ -1,5 +1,5 @@
 -- Legal schedules: what every schedule of a gate list has to be, on a machine that applies one kind of gate in each region.
-use Rattle.std.specs.Prelude.{◌≡◌, ℕ, zero, suc, ◌<◌, ◌≤◌, ◌==◌, Bool, true, false, if◌then◌else◌, List, [], ◌∷◌, length, All, Contains}
+use Rattle.std.specs.Prelude.{◌≡◌, ℕ, suc, ◌<◌, ◌≤◌, ◌==◌, Bool, true, if◌then◌else◌, List, [], ◌∷◌, length, All, Contains}
 use Rattle.std.specs.List.{sum_by, list_any, count_by}
 use Rattle.sc_gate.specs.declared.gate.Gate.{Gate}
 use Rattle.sc_sched.specs.Gates.{arity_at, kind_at, shares}

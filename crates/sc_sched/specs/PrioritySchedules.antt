@@ -32,7 +32,8 @@ shop_of_gates gates k d before = record {
   room = λ kind. slice_index_or (rooms d gates) kind 1;
   regions = k;
   before = before;
-  shares = shares gates; }
+  shares = shares gates;
+}
 
 -- A legal schedule with no empty step in which each ready gate that is not placed earlier stands in a step exactly where it
 -- fits beside those gates of the step that are before it in the order. The steps are cut into regions kind by kind.

@@ -1,5 +1,5 @@
 -- The rank of a gate: the weights of the heaviest chains that start at it and that hold it, and its position.
-use Rattle.std.specs.Prelude.{◌≡◌, ℕ, ◌<◌, ◌⊎◌, Some, List, map, Contains}
+use Rattle.std.specs.Prelude.{◌≡◌, ℕ, ◌⊎◌, Some, List, map, Contains}
 use Rattle.sc_gate.specs.declared.gate.Gate.{Gate}
 use Rattle.sc_gate.specs.Chains.{Timed, timed, Linked, weight_of, Greatest}
 use Rattle.sc_sched.specs.declared.order.Rank.{Rank}

@@ -1,5 +1,5 @@
 -- What the two loops of a step keep: gates taken while a region is free, then open regions filled.
-use Rattle.std.specs.Prelude.{◌≡◌, ℕ, ◌+◌, ◌-◌, ◌<◌, ◌≤◌, ◌==◌, ◌&&◌, not, Bool, true, false, List, [], ◌∷◌, length, nat_lt, slice_index, slice_index_or}
+use Rattle.std.specs.Prelude.{◌≡◌, ℕ, ◌+◌, ◌<◌, ◌≤◌, ◌==◌, ◌&&◌, not, Bool, true, false, List, length, nat_lt, slice_index, slice_index_or}
 use Rattle.std.specs.List.{list_any}
 use Rattle.sc_sched.specs.Step.{div_up, Shop, size, needed, IsShop}
 use Rattle.sc_sched.specs.Schedule.{positions}
@@ -35,7 +35,6 @@ pub record Filled {K : Type 0} (s : Shop K) (ready taken chosen : ℕ → Bool) 
   pub used_up : (x : ℕ) → x < s.gates → ready x ≡ true → chosen x ≡ false → needed s taken ≡ s.regions
   pub full : (x : ℕ) → x < s.gates → ready x ≡ true → chosen x ≡ false → div_up (size s chosen (s.kind_of x)) (s.room (s.kind_of x)) < div_up (size s chosen (s.kind_of x) + 1) (s.room (s.kind_of x))
 
-
 -- a position stands in a list
 abbrev pub stands : List ℕ → ℕ → Bool
 stands xs y = list_any (λ x. y == x) xs
@@ -50,7 +49,8 @@ shop_of l room regions = record {
   room = λ k. slice_index_or room k 1;
   regions = regions;
   before = λ x y. nat_lt (slice_index l.place x) (slice_index l.place y);
-  shares = λ x y. false; }
+  shares = λ x y. false;
+}
 
 -- the ready gates are those of the step and those that still wait, and the counts are those of the step
 pub record Counted (s : Shop ℕ) (ready waits taken : ℕ → Bool) (used : List ℕ) : Type 0 where

@@ -1,7 +1,7 @@
 -- The one priority schedule: each step takes the ready gates in an order, as long as they fit.
-use Rattle.std.specs.Prelude.{◌≡◌, ℕ, zero, suc, ◌+◌, ◌-◌, ◌/◌, ◌*◌, ◌<◌, ◌≤◌, ◌==◌, ◌&&◌, ◌||◌, not, Bool, true, false, cond, List, [], ◌∷◌, ◌++◌, length, take, drop}
-use Rattle.std.specs.List.{sum_by, All, filter, list_any, flat_map, count_by}
-use Rattle.sc_sched.specs.Step.{Shop, IsStep, needed}
+use Rattle.std.specs.Prelude.{◌≡◌, ℕ, zero, suc, ◌<◌, ◌&&◌, ◌||◌, not, Bool, true, List, [], ◌∷◌, ◌++◌, take, drop}
+use Rattle.std.specs.List.{filter, flat_map}
+use Rattle.sc_sched.specs.Step.{Shop, IsStep}
 use Rattle.sc_sched.specs.Legal.{Region, Step, stands_in, placed}
 
 -- every number below n passes

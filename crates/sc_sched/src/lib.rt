@@ -2,10 +2,10 @@
 #![tactic(auto)]
 
 pub mod board;
-mod plan;
 mod laws;
 pub mod numbers;
 pub mod order;
+mod plan;
 pub mod round;
 pub mod taking;
 mod text;

@@ -20,7 +20,9 @@ pub trait Priority {
         ensures { result ≡ comes self.now a.now b.now };
 
     ghost irreflexive: { (o : Self) (a : Rank) → comes o a a ≡ false };
+
     ghost transitive: { (o : Self) (a b c : Rank) → comes o a b ≡ true → comes o b c ≡ true → comes o a c ≡ true };
+
     ghost total: { (o : Self) (a b : Rank) → comes o a b ≡ false → comes o b a ≡ false → a.position ≡ b.position };
 }
 
@@ -35,7 +37,9 @@ impl Priority for Rcp {
     }
 
     ghost irreflexive = { λ o a. greater_irreflexive a.height a.position };
+
     ghost transitive = { λ o a b c h k. greater_transitive a.height a.position b.height b.position c.height c.position h k };
+
     ghost total = { λ o a b h k. greater_total a.height a.position b.height b.position h k };
 }
 
@@ -50,6 +54,8 @@ impl Priority for Lpfs {
     }
 
     ghost irreflexive = { λ o a. greater_irreflexive a.through a.position };
+
     ghost transitive = { λ o a b c h k. greater_transitive a.through a.position b.through b.position c.through c.position h k };
+
     ghost total = { λ o a b h k. greater_total a.through a.position b.through b.position h k };
 }

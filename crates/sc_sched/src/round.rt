@@ -8,7 +8,12 @@ use crate::board::Board;
 use crate::tray::{Memory, Tray};
 
 // Takes the first ready gate as long as a region is free. Answers how many are left free.
-pub fn take_free(board: &mut Board, tray: &mut Tray, room: &[u32], regions: u32) -> Result<u32, Memory>
+pub fn take_free(
+    board: &mut Board,
+    tray: &mut Tray,
+    room: &[u32],
+    regions: u32,
+) -> Result<u32, Memory>
     requires shop { IsShop (shop_of (layout_of board.old) room.now regions) }
     requires few { length board.old.kind.items ≤ 4194304 }
     requires rooms { length room.now ≡ length tray.old.used.items }
@@ -59,7 +64,12 @@ pub fn fill_kind(board: &mut Board, tray: &mut Tray, room: &[u32], kind: u32) ->
 }
 
 // Takes one step.
-pub fn take_step(board: &mut Board, tray: &mut Tray, room: &[u32], regions: u32) -> Result<(), Memory>
+pub fn take_step(
+    board: &mut Board,
+    tray: &mut Tray,
+    room: &[u32],
+    regions: u32,
+) -> Result<(), Memory>
     requires shop { IsShop (shop_of (layout_of board.old) room.now regions) }
     requires few { length board.old.kind.items ≤ 4194304 }
     requires rooms { length room.now ≡ length tray.old.used.items }

@@ -1,10 +1,8 @@
-use Rattle.std.proofs.Common.{rules, ◌≡◌, ◌≢◌, ◌==◌, ◌&&◌, not, ℕ, Bool, true, false, ◌<◌, ◌≤◌, ◌+◌, ◌%◌, ◌++◌, [], ◌∷◌, cond, length, slice_index, slice_set, List, sym, ap, ◌∙◌, refl, subst, arith, inl, inr}
+use Rattle.std.proofs.Common.{rules, ◌≡◌, ℕ, ◌<◌, ◌≤◌, length, slice_index, sym, ap, ◌∙◌, subst, arith, inl, inr}
 use Rattle.std.proofs.lemmas.Bool.{cases_eq, cases_lt}
-use Rattle.std.proofs.lemmas.Grind.{common_steps}
 use Rattle.sc_sched.specs.Board.{layout_of, waits}
 use Rattle.sc_sched.specs.Layout.{Layout}
-use Rattle.sc_sched.specs.Step.{Shop, IsShop, IsStep, count_below}
-use Rattle.sc_sched.specs.Rounds.{shop_of, stands, Free, Counted, Fill, FillsSome, Opened}
+use Rattle.sc_sched.specs.Rounds.{shop_of, stands, Fill}
 use Rattle.sc_sched.proofs.Free.{index_is}
 use Rattle.sc_sched.proofs.Open.{free_ends, fill_ends, all_full, stands_at}
 use Rattle.sc_sched.proofs.round.take_step.Goals as goal
@@ -41,23 +39,27 @@ loop-at-preserved c =
       used = c.in_ok-fill_kind.ensures.used ∙ c.loop-at.invariant.used;
       kinds = c.in_ok-fill_kind.ensures.kinds used ∙ c.loop-at.invariant.kinds;
       grows = λ j. elim (cases_eq j c.index-kind.result.now) [
-          inl e ↦ rw e (omega (arith, c.loop-at.invariant.grows c.index-kind.result.now, c.in_ok-fill_kind.ensures.more))
-        | inr n ↦ rw (c.in_ok-fill_kind.ensures.others j n) (c.loop-at.invariant.grows j) ];
+        | inl e ↦ rw e (omega (arith, c.loop-at.invariant.grows c.index-kind.result.now, c.in_ok-fill_kind.ensures.more))
+        | inr n ↦ rw (c.in_ok-fill_kind.ensures.others j n) (c.loop-at.invariant.grows j)
+      ];
       rest = λ j z. elim (cases_eq j c.index-kind.result.now) [
-          inl e ↦ absurd (omega (arith, live, ap (slice_index c.take_free.new.tray.used.items) (sym e) ∙ z))
-        | inr n ↦ c.in_ok-fill_kind.ensures.others j n ∙ c.loop-at.invariant.rest j z ];
+        | inl e ↦ absurd (omega (arith, live, ap (slice_index c.take_free.new.tray.used.items) (sym e) ∙ z))
+        | inr n ↦ c.in_ok-fill_kind.ensures.others j n ∙ c.loop-at.invariant.rest j z
+      ];
       done = λ i l z d e w. elim (cases_eq (slice_index c.take_free.new.tray.kinds.items i) c.index-kind.result.now) [
-          inl q ↦ rw q (c.in_ok-fill_kind.ensures.full z (rw ke d) (rw ke (e ∙ q)) w)
+        | inl q ↦ rw q (c.in_ok-fill_kind.ensures.full z (rw ke d) (rw ke (e ∙ q)) w)
         | inr n ↦ (let m : i < c.loop-at.at = elim (cases_lt i c.loop-at.at) [ inl y ↦ y | inr g ↦ absurd (n (ap (slice_index c.take_free.new.tray.kinds.items) (omega (arith, l, g)) ∙ sym k)) ] in
-            rw (c.in_ok-fill_kind.ensures.others (slice_index c.take_free.new.tray.kinds.items i) n) (c.loop-at.invariant.done i m z d e (c.in_ok-fill_kind.ensures.fewer z (rw ke d) w))) ];
+            rw (c.in_ok-fill_kind.ensures.others (slice_index c.take_free.new.tray.kinds.items i) n) (c.loop-at.invariant.done i m z d e (c.in_ok-fill_kind.ensures.fewer z (rw ke d) w)))
+      ];
       fill = subst (λ (m : Layout). Fill (shop_of m c.args.room.now c.args.regions) (waits c.args.board.now) (waits c.fill_kind.new.board) (stands c.take_free.new.tray.step.items) (stands c.fill_kind.new.tray.step.items) c.fill_kind.new.tray.used.items) c.loop-at.invariant.layout
-        (c.in_ok-fill_kind.ensures.fill c.args.regions (waits c.args.board.now) (stands c.take_free.new.tray.step.items)
-          (subst (λ (m : Layout). Fill (shop_of m c.args.room.now c.args.regions) (waits c.args.board.now) (waits c.loop-at.board) (stands c.take_free.new.tray.step.items) (stands c.loop-at.tray.step.items) c.loop-at.tray.used.items) (sym c.loop-at.invariant.layout) c.loop-at.invariant.fill)) }
+          (c.in_ok-fill_kind.ensures.fill c.args.regions (waits c.args.board.now) (stands c.take_free.new.tray.step.items)
+          (subst (λ (m : Layout). Fill (shop_of m c.args.room.now c.args.regions) (waits c.args.board.now) (waits c.loop-at.board) (stands c.take_free.new.tray.step.items) (stands c.loop-at.tray.step.items) c.loop-at.tray.used.items) (sym c.loop-at.invariant.layout) c.loop-at.invariant.fill));
+    }
 
 pub returns-clause-step : goal.returns-clause-step
 returns-clause-step c =
     let e : length c.loop-at.tray.used.items ≡ length c.args.room.now = c.loop-at.invariant.used ∙ sym c.requires.rooms in
     let l : length c.loop-at.tray.kinds.items ≤ c.loop-at.at = search rules in
     fill_ends (shop_of (layout_of c.args.board.now) c.args.room.now c.args.regions) (waits c.args.board.now) (waits c.loop-at.board) (stands c.take_free.new.tray.step.items) (stands c.loop-at.tray.step.items) c.loop-at.tray.used.items c.loop-at.invariant.fill
-      (λ x b. rw e (c.requires.kinds x b))
-      (all_full c.args.board.now.kind.items c.args.room.now c.take_free.new.tray.used.items c.loop-at.tray.used.items c.take_free.new.tray.kinds.items (waits c.loop-at.board) c.loop-at.at e (c.in_ok-free.ensures.used ∙ sym c.loop-at.invariant.used) c.in_ok-free.ensures.opened (rw c.loop-at.invariant.kinds at l) c.loop-at.invariant.rest c.requires.kinds c.loop-at.invariant.done)
+    (λ x b. rw e (c.requires.kinds x b))
+    (all_full c.args.board.now.kind.items c.args.room.now c.take_free.new.tray.used.items c.loop-at.tray.used.items c.take_free.new.tray.kinds.items (waits c.loop-at.board) c.loop-at.at e (c.in_ok-free.ensures.used ∙ sym c.loop-at.invariant.used) c.in_ok-free.ensures.opened (rw c.loop-at.invariant.kinds at l) c.loop-at.invariant.rest c.requires.kinds c.loop-at.invariant.done)

@@ -7,7 +7,7 @@ pub returns-in_err-write_all-clause-prefix : goal.returns-in_err-write_all-claus
 returns-in_err-write_all-clause-prefix g c =
     let s = c.args.s.now in
     prefix_more (number_line (codes "steps") (length s.steps)) (prefix_more (number_line (codes "gates") s.gates) (prefix_more (number_line (codes "width") s.d)
-      (prefix_more (number_line (codes "regions") s.k) c.write_all.ensures.prefix)))
+    (prefix_more (number_line (codes "regions") s.k) c.write_all.ensures.prefix)))
 
 pub returns-in_err-write_number_line-clause-prefix : goal.returns-in_err-write_number_line-clause-prefix
 returns-in_err-write_number_line-clause-prefix g c = prefix_more _ (prefix_more _ (prefix_more _ (prefix_then c.in_ok-write_all.ensures.appended c.write_number_line.ensures.prefix)))

@@ -1,4 +1,3 @@
-use Rattle.std.proofs.Common.{append_assoc, ◌++◌}
 use Rattle.std.specs.Prelude.{codes}
 use Rattle.sc_base.proofs.OutputLemmas.{wrote_then, prefix_then, prefix_more, prefix_whole}
 use Rattle.sc_sched.specs.Text.{after_spaces}

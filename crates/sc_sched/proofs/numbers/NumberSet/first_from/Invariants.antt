@@ -1,4 +1,4 @@
-use Rattle.std.proofs.Common.{◌≡◌, ℕ, Bool, true, false, ◌<◌, ◌≤◌, length, slice_get, slice_set, slice_index_or, IfSome, IfNone, List, ◌+◌, ◌-◌, ◌*◌}
+use Rattle.std.proofs.Common.{◌≡◌, ℕ, false, ◌<◌, ◌≤◌, length, slice_index_or, ◌-◌}
 use Rattle.sc_sched.proofs.numbers.NumberSet.first_from.Given as goal
 
 abbrev pub invariant-loop-i : goal.invariant-loop-i
