@@ -1,14 +1,14 @@
 -- The first breach: what the tests of the code find, and that there is none exactly where a schedule is legal.
-use Rattle.std.proofs.Common.{◌≡◌, ℕ, zero, suc, ◌+◌, ◌<◌, ◌≤◌, Bool, true, false, Option, Some, None, List, [], ◌∷◌, length, get_or, refl, sym, ap, ◌∙◌, subst, arith, ◌⊎◌, inl, inr}
-use Rattle.std.specs.Prelude.{option_map, unwrap_or, nat_lt, nat_le, not, ◌&&◌, position, All, Contains, ◌↔◌, Result, Ok, Err, IfOk}
-use Rattle.std.specs.List.{list_any, sum_by, position_or_len}
-use Rattle.std.proofs.lemmas.Bool.{false≢true, cases_Bool, cases_lt, lt-ltb, le-ltb, ltb-true, leb-true}
+use Rattle.std.proofs.Common.{◌≡◌, ℕ, zero, suc, ◌+◌, ◌<◌, ◌≤◌, Bool, true, false, Option, Some, None, List, [], ◌∷◌, length, get_or, refl, sym, ap, ◌∙◌, arith, inl, inr}
+use Rattle.std.specs.Prelude.{nat_lt, nat_le, not, ◌&&◌, All, Contains, ◌↔◌, Result, Ok, Err, IfOk}
+use Rattle.std.specs.List.{list_any, position_or_len}
+use Rattle.std.proofs.lemmas.Bool.{false≢true, cases_Bool, cases_lt, lt-ltb, le-ltb, leb-true}
 use Rattle.std.proofs.lemmas.List.Folds.{list_any_at, list_any-append}
 use Rattle.std.proofs.lemmas.List.Sums.{fails_before_first}
 use Rattle.std.proofs.lemmas.List.Elements.{Contains-get_or}
 use Rattle.sc_gate.specs.declared.gate.Gate.{Gate}
 use Rattle.sc_sched.specs.declared.plan.Plan.{Plan}
-use Rattle.sc_sched.specs.Gates.{arity_at, kind_at, shares}
+use Rattle.sc_sched.specs.Gates.{kind_at, shares}
 use Rattle.sc_sched.specs.Schedule.{positions}
 use Rattle.sc_sched.specs.Legal.{Region, Step, placed, times_placed, step_of, IsLegal}
 use Rattle.sc_sched.proofs.Build.{search_below}
@@ -17,7 +17,7 @@ use Rattle.sc_sched.proofs.Count.{and_left, and_right}
 use Rattle.sc_check.specs.declared.finding.Finding.{Finding}
 use Rattle.sc_check.specs.declared.finding.Finding.TheVariants.{Legal, Missing, Twice, Early, TooManyRegions, TooWideRegion, MixedKinds}
 use Rattle.sc_check.specs.declared.places.Stands.{Stands}
-use Rattle.sc_check.specs.declared.places.Stands.TheVariants.{Nowhere, Once, Again}
+use Rattle.sc_check.specs.declared.places.Stands.TheVariants.{Nowhere}
 use Rattle.sc_check.specs.Places.{standing, found_at, lowest, is_nowhere, is_again}
 use Rattle.sc_check.specs.Early.{once_in, step_at, early_by}
 use Rattle.sc_check.specs.Finding.{lowest_step, is_missing, is_twice, is_early, has_many_regions, is_wide, has_wide_region, other_kind, is_mixed, has_mixed_kinds, first_breach, finding}
@@ -68,13 +68,15 @@ all_none None None None None None None h = record { missing = refl; twice = refl
 -- none below n passes
 pub none_below : (test : ℕ → Bool) (n k : ℕ) → lowest test n ≡ None → k < n → test k ≡ false
 none_below test n k e l = elim (search_below test n) [
-    inl t ↦ (let s : lowest test n ≡ Some t.0 = lowest_found test n t.0 t.1 t.3 t.2 in let d : None ≡ Some t.0 = sym e ∙ s in cc)
-  | inr h ↦ h k l ]
+  | inl t ↦ (let s : lowest test n ≡ Some t.0 = lowest_found test n t.0 t.1 t.3 t.2 in let d : None ≡ Some t.0 = sym e ∙ s in cc)
+  | inr h ↦ h k l
+]
 
 no_position : (p : Step → Bool) (xs : List Step) → lowest_step p xs ≡ None → length xs ≤ position_or_len p xs
 no_position p xs e = elim (cases_lt (position_or_len p xs) (length xs)) [
-    inl l ↦ (let s : lowest_step p xs ≡ Some (position_or_len p xs + 1) = rw (lt-ltb _ _ l) refl in let d : None ≡ Some (position_or_len p xs + 1) = sym e ∙ s in cc)
-  | inr g ↦ g ]
+  | inl l ↦ (let s : lowest_step p xs ≡ Some (position_or_len p xs + 1) = rw (lt-ltb _ _ l) refl in let d : None ≡ Some (position_or_len p xs + 1) = sym e ∙ s in cc)
+  | inr g ↦ g
+]
 
 no_step : (p : Step → Bool) (xs : List Step) (k : ℕ) (d : Step) → lowest_step p xs ≡ None → k < length xs → p (get_or xs k d) ≡ false
 no_step p xs k d e l = fails_before_first p xs k d (let g : length xs ≤ position_or_len p xs = no_position p xs e in omega (arith, g, l))
@@ -95,8 +97,9 @@ again_is (suc (suc t)) s = sym (lt-ltb 1 (suc (suc t)) (omega arith))
 
 placed_is : (steps : List Step) (x : ℕ) → nat_lt 0 (times_placed steps x) ≡ placed steps x
 placed_is steps x = elim (cases_Bool (placed steps x)) [
-    inl t ↦ lt-ltb _ _ (placed_some steps x t) ∙ sym t
-  | inr f ↦ (let z : times_placed steps x ≡ 0 = placed_none steps x f in le-ltb _ _ (omega (arith, z)) ∙ sym f) ]
+  | inl t ↦ lt-ltb _ _ (placed_some steps x t) ∙ sym t
+  | inr f ↦ (let z : times_placed steps x ≡ 0 = placed_none steps x f in le-ltb _ _ (omega (arith, z)) ∙ sym f)
+]
 
 pub missing_is : (places : List Stands) (steps : List Step) (n : ℕ) → length places ≡ n → ((x : ℕ) → x < n → get_or places x Nowhere ≡ found_at steps x) →
     lowest (λ x. is_nowhere (get_or places x Nowhere)) (length places) ≡ lowest (is_missing steps) n
@@ -139,7 +142,7 @@ early_is gates places steps n h m t =
 kinds_agree : (gates : List Gate) (region : Region) → is_mixed gates region ≡ false → (x y : ℕ) → Contains region x → Contains region y → kind_at gates x ≡ kind_at gates y
 kinds_agree gates region h x y (i, l, e) (j, k, f) =
     let inner : list_any (λ y. other_kind (kind_at gates (get_or region i x)) (kind_at gates y)) region ≡ false =
-      each_fails (λ x. list_any (λ y. other_kind (kind_at gates x) (kind_at gates y)) region) region i x h l in
+    each_fails (λ x. list_any (λ y. other_kind (kind_at gates x) (kind_at gates y)) region) region i x h l in
     let both : kind_at gates (get_or region i x) ≡ kind_at gates (get_or region j y) = same_from _ _ (each_fails (λ y. other_kind (kind_at gates (get_or region i x)) (kind_at gates y)) region j y inner k) in
     ap (kind_at gates) (sym e) ∙ (both ∙ ap (kind_at gates) f)
 
@@ -150,7 +153,7 @@ InRange gates steps = All (λ step. All (λ region. All (λ x. x < length gates)
 pub legal_from : (gates : List Gate) (s : Plan) → InRange gates s.steps → finding gates s ≡ Legal → IsLegal gates s.k s.d s.steps
 legal_from gates s inside e =
     let n : AllNone (lowest (is_missing s.steps) (length gates)) (lowest (is_twice s.steps) (length gates)) (lowest (is_early gates s.steps) (length gates))
-        (lowest_step (has_many_regions s.k) s.steps) (lowest_step (has_wide_region gates s.d) s.steps) (lowest_step (has_mixed_kinds gates) s.steps) = all_none _ _ _ _ _ _ e in
+    (lowest_step (has_many_regions s.k) s.steps) (lowest_step (has_wide_region gates s.d) s.steps) (lowest_step (has_mixed_kinds gates) s.steps) = all_none _ _ _ _ _ _ e in
     record {
       in_range = inside;
       once = λ x l. once_each s.steps (length gates) x n.missing n.twice l;
@@ -170,11 +173,12 @@ not_mixed gates region inside h = mixed_none gates region (λ i l. inside i 0 l)
 
 none_early : (gates : List Gate) (s : Plan) → IsLegal gates s.k s.d s.steps → (y : ℕ) → y < length gates → is_early gates s.steps y ≡ false
 none_early gates s h y l = elim (cases_Bool (is_early gates s.steps y)) [
-    inr f ↦ f
+  | inr f ↦ f
   | inl t ↦ (let (x, b, k) = some_below_any (λ x. shares gates x y && nat_le (step_of s.steps y) (step_of s.steps x)) y t in
       let before : step_of s.steps x < step_of s.steps y = h.in_order x y b l (and_left (shares gates x y) _ k) in
       let after : step_of s.steps y ≤ step_of s.steps x = leb-true _ _ (and_right (shares gates x y) _ k) in
-      absurd (omega (arith, before, after))) ]
+      absurd (omega (arith, before, after)))
+]
 
 pub legal_to : (gates : List Gate) (s : Plan) → IsLegal gates s.k s.d s.steps → finding gates s ≡ Legal
 legal_to gates s h = breach_none _ _ _ _ _ _

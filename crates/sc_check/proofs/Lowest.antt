@@ -1,6 +1,5 @@
 -- The lowest number that passes, and the first step that does.
-use Rattle.std.proofs.Common.{◌≡◌, ℕ, zero, suc, ◌+◌, ◌<◌, ◌≤◌, Bool, true, false, Option, Some, None, List, [], ◌∷◌, ◌++◌, length, get_or, refl, sym, ap, ◌∙◌, arith, ◌⊎◌, inl, inr}
-use Rattle.std.specs.Prelude.{find, position, option_map, nat_lt}
+use Rattle.std.proofs.Common.{◌≡◌, ℕ, zero, suc, ◌+◌, ◌<◌, ◌≤◌, Bool, true, false, Some, None, List, [], ◌∷◌, length, get_or, refl, sym, ap, ◌∙◌, arith, inl, inr}
 use Rattle.std.specs.List.{list_any, position_or_len}
 use Rattle.std.proofs.lemmas.Bool.{lt-ltb, le-ltb}
 use Rattle.std.proofs.lemmas.List.{get_or_default}
@@ -20,8 +19,9 @@ lowest_none test (suc n) h = find-append test (positions n) (n ∷ []) ∙ rw (l
 pub lowest_found : (test : ℕ → Bool) (n i : ℕ) → i < n → ((k : ℕ) → k < i → test k ≡ false) → test i ≡ true → lowest test n ≡ Some i
 lowest_found test zero i l h t = absurd (omega (arith, l))
 lowest_found test (suc n) i l h t = find-append test (positions n) (n ∷ []) ∙ elim (lt_cases i n l) [
-    inl e ↦ (let k : test n ≡ true = ap test (sym e) ∙ t in rw (lowest_none test n (λ j b. h j (omega (arith, b, e))), k, e) refl)
-  | inr m ↦ rw (lowest_found test n i m h t) refl ]
+  | inl e ↦ (let k : test n ≡ true = ap test (sym e) ∙ t in rw (lowest_none test n (λ j b. h j (omega (arith, b, e))), k, e) refl)
+  | inr m ↦ rw (lowest_found test n i m h t) refl
+]
 
 pub lowest_same : (p q : ℕ → Bool) (n : ℕ) → ((k : ℕ) → k < n → p k ≡ q k) → lowest p n ≡ lowest q n
 lowest_same p q zero h = refl

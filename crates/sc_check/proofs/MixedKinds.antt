@@ -1,9 +1,8 @@
 -- Regions of one kind, and of more.
-use Rattle.std.proofs.Common.{◌≡◌, ℕ, zero, suc, ◌+◌, ◌<◌, ◌≤◌, Bool, true, false, Option, Some, None, List, [], ◌∷◌, length, get_or, map, refl, sym, ap, ◌∙◌, arith, ◌⊎◌, inl, inr}
-use Rattle.std.specs.Prelude.{slice_get, not, IsTrue, ◌↔◌}
+use Rattle.std.proofs.Common.{◌≡◌, ℕ, zero, suc, ◌<◌, Bool, true, false, Option, Some, None, List, [], ◌∷◌, length, get_or, refl, sym, ap, ◌∙◌, arith, inl, inr}
+use Rattle.std.specs.Prelude.{IsTrue, ◌↔◌}
 use Rattle.std.specs.List.{list_any}
 use Rattle.std.proofs.lemmas.Bool.{false≢true, cases_Bool}
-use Rattle.std.proofs.lemmas.Option.{slice_get-get_or}
 use Rattle.std.proofs.lemmas.List.Folds.{list_any_at}
 use Rattle.sc_gate.specs.declared.gate.Kind.{Kind}
 use Rattle.sc_gate.specs.declared.gate.Gate.{Gate}
@@ -42,7 +41,7 @@ some_kind_here (g ∷ gates) (suc x) l = some_kind_here gates x (omega (arith, l
 pub mixed_found : (gates : List Gate) (region : List ℕ) (i : ℕ) → i < length region → (kind_at gates (get_or region 0 0) ≡ kind_at gates (get_or region i 0) → ⊥) → is_mixed gates region ≡ true
 mixed_found gates region i l h =
     list_any_at (λ x. list_any (λ y. other_kind (kind_at gates x) (kind_at gates y)) region) region 0 0 (omega (arith, l))
-      (list_any_at (λ y. other_kind (kind_at gates (get_or region 0 0)) (kind_at gates y)) region i 0 l (other_from _ _ h))
+    (list_any_at (λ y. other_kind (kind_at gates (get_or region 0 0)) (kind_at gates y)) region i 0 l (other_from _ _ h))
 
 pub other_none : (a b : Option Kind) (k : Kind) → a ≡ Some k → b ≡ Some k → other_kind a b ≡ false
 other_none a b k e f = rw (e, f) (other-refl k)
@@ -52,9 +51,9 @@ pub mixed_none : (gates : List Gate) (region : List ℕ) → ((i : ℕ) → i < 
     ((j : ℕ) → j < length region → kind_at gates (get_or region j 0) ≡ kind_at gates (get_or region 0 0)) → is_mixed gates region ≡ false
 mixed_none gates region inside h =
     none_passes (λ x. list_any (λ y. other_kind (kind_at gates x) (kind_at gates y)) region) region 0
-      (λ i l. (let (kind, first) = some_kind_here gates (get_or region 0 0) (inside 0 (omega (arith, l))) in
-        none_passes (λ y. other_kind (kind_at gates (get_or region i 0)) (kind_at gates y)) region 0
-          (λ j k. other_none _ _ kind (h i l ∙ first) (h j k ∙ first))))
+    (λ i l. (let (kind, first) = some_kind_here gates (get_or region 0 0) (inside 0 (omega (arith, l))) in
+    none_passes (λ y. other_kind (kind_at gates (get_or region i 0)) (kind_at gates y)) region 0
+    (λ j k. other_none _ _ kind (h i l ∙ first) (h j k ∙ first))))
 
 -- one turn of the loop: two gates compared
 pub mixed_now : (gates : List Gate) (region : List ℕ) (i : ℕ) (d : Gate) (r : Bool) → i < length region → ((i : ℕ) → i < length region → get_or region i 0 < length gates) →

@@ -1,5 +1,5 @@
 -- Where positions stand, as regions, steps and schedules are gone through.
-use Rattle.std.proofs.Common.{◌≡◌, ◌≢◌, ℕ, zero, suc, ◌+◌, ◌<◌, ◌≤◌, Bool, true, false, cond, List, [], ◌∷◌, ◌++◌, length, get_or, take, set, refl, sym, ap, ◌∙◌, arith, ◌⊎◌, inl, inr, ◌||◌, add-one, add-zero, zero-add, add-suc}
+use Rattle.std.proofs.Common.{◌≡◌, ◌≢◌, ℕ, zero, suc, ◌+◌, ◌<◌, Bool, true, false, cond, List, [], ◌∷◌, ◌++◌, length, get_or, take, set, refl, sym, ap, ◌∙◌, arith, inl, inr, add-one, add-zero, zero-add, add-suc}
 use Rattle.std.specs.Prelude.{◌==◌}
 use Rattle.std.specs.List.{list_any, sum_by, count_by}
 use Rattle.std.proofs.lemmas.Bool.{false≢true, cases_Bool, eqb-true, eq-eqb}
@@ -22,13 +22,14 @@ pub mark_more : (places : List Stands) (step p : ℕ) (r old : Stands) (region :
     get_or places p Nowhere ≡ marked_times old step (count_by (λ y. y == p) (take i region)) →
     get_or (set places (get_or region i 0) r) p Nowhere ≡ marked_times old step (count_by (λ y. y == p) (take (i + 1) region))
 mark_more places step p r old region i l b e inv = elim (cases_Bool (get_or region i 0 == p)) [
-    inl t ↦ (let same : get_or region i 0 ≡ p = eqb-true _ _ t in
+  | inl t ↦ (let same : get_or region i 0 ≡ p = eqb-true _ _ t in
       let here : get_or (set places (get_or region i 0) r) (get_or region i 0) Nowhere ≡ r = get_or-set_same places (get_or region i 0) r Nowhere b in
       let now : get_or places (get_or region i 0) Nowhere ≡ get_or places p Nowhere = ap (λ (q : ℕ). get_or places q Nowhere) same in
       rw (count_by_more_yes (λ y. y == p) region i 0 l t, add-one)
-        (ap (λ (q : ℕ). get_or (set places (get_or region i 0) r) q Nowhere) (sym same) ∙ (here ∙ (e ∙ ap (λ (m : Stands). marked m step) (now ∙ inv)))))
+      (ap (λ (q : ℕ). get_or (set places (get_or region i 0) r) q Nowhere) (sym same) ∙ (here ∙ (e ∙ ap (λ (m : Stands). marked m step) (now ∙ inv)))))
   | inr f ↦ (let other : p ≢ get_or region i 0 = λ q. false≢true (sym f ∙ eq-eqb _ _ (sym q)) in
-      rw (count_by_more_no (λ y. y == p) region i 0 l f) (get_or-set_other places (get_or region i 0) p r Nowhere other ∙ inv)) ]
+      rw (count_by_more_no (λ y. y == p) region i 0 l f) (get_or-set_other places (get_or region i 0) p r Nowhere other ∙ inv))
+]
 
 -- the next region of a step
 pub step_more : (places new : List Stands) (step p : ℕ) (old : Stands) (regions : List (List ℕ)) (region : List ℕ) (i : ℕ) → i < length regions →
@@ -40,7 +41,7 @@ step_more places new step p old regions region i l is e inv =
     e ∙ (ap (λ (m : Stands). marked_times m step (count_by (λ y. y == p) region)) inv
     ∙ (sym (marked_times-add old step (times_in p (take i regions)) (count_by (λ y. y == p) region))
     ∙ ap (marked_times old step) (ap (λ (r : List ℕ). times_in p (take i regions) + count_by (λ y. y == p) r) is
-      ∙ sym (sum_by_more (λ region. count_by (λ y. y == p) region) regions i region l))))
+    ∙ sym (sum_by_more (λ region. count_by (λ y. y == p) region) regions i region l))))
 
 sums_some : {A : Type 0} (f : A → ℕ) (p : A → Bool) → ((x : A) → p x ≡ true → 0 < f x) → (xs : List A) → list_any p xs ≡ true → 0 < sum_by f xs
 sums_some f p g [] h = absurd (false≢true h)
@@ -102,9 +103,9 @@ pub found_more : (xs : List Step) (step : Step) (x : ℕ) → found_at (xs ++ st
 found_more xs step x =
     let e : times_placed (xs ++ step ∷ []) x ≡ times_placed xs x + times_in x step = sum_by-append (times_in x) xs (step ∷ []) ∙ ap (λ (n : ℕ). times_placed xs x + n) (zero-add (times_in x step)) in
     rw e (standing_more (times_placed xs x) (times_in x step) (step_of xs x) (step_of (xs ++ step ∷ []) x) (length xs)
-      (λ some. step_of_old xs (step ∷ []) x (elim (cases_Bool (placed xs x)) [ inl t ↦ t | inr f ↦ absurd (omega (arith, some, placed_none xs x f)) ]))
-      (λ none some. step_of_new xs (step ∷ []) x (elim (cases_Bool (placed xs x)) [ inl t ↦ absurd (omega (arith, none, placed_some xs x t)) | inr f ↦ f ])
-        ∙ elim (cases_Bool (stands_in step x)) [ inl t ↦ rw t (omega arith) | inr f ↦ absurd (omega (arith, some, times_none step x f)) ]))
+    (λ some. step_of_old xs (step ∷ []) x (elim (cases_Bool (placed xs x)) [ inl t ↦ t | inr f ↦ absurd (omega (arith, some, placed_none xs x f)) ]))
+    (λ none some. step_of_new xs (step ∷ []) x (elim (cases_Bool (placed xs x)) [ inl t ↦ absurd (omega (arith, none, placed_some xs x t)) | inr f ↦ f ])
+    ∙ elim (cases_Bool (stands_in step x)) [ inl t ↦ rw t (omega arith) | inr f ↦ absurd (omega (arith, some, times_none step x f)) ]))
 
 -- what a slice of a whole list wrote back
 pub written_back : {A : Type 0} (ys zs : List A) (n : ℕ) → length ys ≡ n → take n (ys ++ zs) ≡ ys
@@ -118,6 +119,6 @@ pub place_more : (places new : List Stands) (p i : ℕ) (steps : List Step) (ste
 place_more places new p i steps step l is e inv =
     let so_far : length (take i steps) ≡ i = rw length-take (omega arith) in
     let more : found_at (take i steps ++ step ∷ []) p ≡ marked_times (found_at (take i steps) p) i (times_in p step) =
-      found_more (take i steps) step p ∙ ap (λ (n : ℕ). marked_times (found_at (take i steps) p) n (times_in p step)) so_far in
+    found_more (take i steps) step p ∙ ap (λ (n : ℕ). marked_times (found_at (take i steps) p) n (times_in p step)) so_far in
     let front : take (i + 1) steps ≡ take i steps ++ step ∷ [] = rw add-one (take-suc steps i step l ∙ ap (λ (s : Step). take i steps ++ s ∷ []) (sym is)) in
     e ∙ (ap (λ (m : Stands). marked_times m i (times_in p step)) inv ∙ (sym more ∙ ap (λ (s : List Step). found_at s p) (sym front)))

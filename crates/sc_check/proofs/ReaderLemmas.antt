@@ -1,16 +1,16 @@
 -- Numbers at the front of a text.
-use Rattle.std.proofs.Common.{◌≡◌, ℕ, zero, suc, ◌+◌, ◌<◌, ◌≤◌, ◌^◌, Bool, true, false, List, [], ◌∷◌, ◌++◌, length, take, drop, refl, sym, ap, ◌∙◌, subst, arith, ◌⊎◌, inl, inr, append_assoc}
+use Rattle.std.proofs.Common.{◌≡◌, ℕ, suc, ◌+◌, ◌<◌, ◌≤◌, ◌^◌, true, List, [], ◌∷◌, ◌++◌, length, take, drop, refl, sym, ap, ◌∙◌, subst, arith, append_assoc}
 use Rattle.std.specs.Prelude.{decimal, codes, Option, Some, None, SomeIff, IfSome, IfNone, MatchOption, get_or}
-use Rattle.std.specs.Char.{is_ascii_digit, digit_value}
+use Rattle.std.specs.Char.{is_ascii_digit}
 use Rattle.std.specs.Str.Parse.{AllDigits, IsNumeral, digits_value}
-use Rattle.std.proofs.lemmas.Bool.{false≢true, cases_Bool}
+use Rattle.std.proofs.lemmas.Bool.{false≢true}
 use Rattle.std.proofs.lemmas.List.{take-append-drop}
 use Rattle.std.proofs.lemmas.Fmt.{decimal_is_IsNumeral, decimal_injective}
 use Rattle.sc_base.proofs.DecimalLemmas.{test-from_AllDigits, AllDigits-from_test, AllDigits-append}
 use Rattle.std.specs.List.{list_all}
 use Rattle.std.proofs.Math.Seq.{take-suc}
 use Rattle.std.proofs.Common.{add-one}
-use Rattle.std.specs.Prelude.{All, flat_map}
+use Rattle.std.specs.Prelude.{All}
 use Rattle.std.proofs.lemmas.List.Concat.{flat_map-append}
 use Rattle.std.proofs.lemmas.List.Elements.{All-append}
 use Rattle.std.proofs.Common.{append-nil}
@@ -129,20 +129,26 @@ module _ (gates : ℕ) (rest last : List ℕ) (space : rest ≡ 32 ∷ last) whe
   pub next_number : (left more : List ℕ) → All (λ x. x < gates) left → rest ≡ after_spaces left ++ 10 ∷ more →
       ((x : ℕ) × (xs : List ℕ) × (x < gates) × All (λ x. x < gates) xs × (last ≡ decimal x ++ (after_spaces xs ++ 10 ∷ more)))
   next_number [] more a h = absurd (end_not_space 10 32 more last refl refl (sym h ∙ space))
-  next_number (x ∷ xs) more a h = (x, xs, a 0 0 (omega arith), all_tail gates x xs a,
-      tail_is 32 32 _ _ (sym space ∙ h) ∙ append_assoc (decimal x) (after_spaces xs) (10 ∷ more))
+  next_number (x ∷ xs) more a h = (
+    x,
+    xs,
+    a 0 0 (omega arith),
+    all_tail gates x xs a,
+    tail_is 32 32 _ _ (sym space ∙ h) ∙ append_assoc (decimal x) (after_spaces xs) (10 ∷ more),
+  )
 
 -- one more position
 pub front_more : (gates : ℕ) (bytes region rest last : List ℕ) (x : ℕ) (more : List ℕ) → gates < 2 ^ 64 → x < gates → ReadsFront gates bytes region rest → rest ≡ 32 ∷ last → last ≡ decimal x ++ more → EndsNumber more →
     ReadsFront gates bytes (region ++ x ∷ []) more
 front_more gates bytes region rest last x more small b h space number ends = record {
   text_is = h.text_is ∙ (ap (λ (z : List ℕ). after_spaces region ++ z) (space ∙ ap (λ (z : List ℕ). 32 ∷ z) number)
-    ∙ (sym (append_assoc (after_spaces region) (32 ∷ decimal x) more)
-    ∙ ap (λ (z : List ℕ). z ++ more) (sym (flat_map-append (λ (x : ℕ). 32 ∷ decimal x) region (x ∷ []) ∙ ap (λ (z : List ℕ). after_spaces region ++ z) (append-nil (32 ∷ decimal x))))));
+      ∙ (sym (append_assoc (after_spaces region) (32 ∷ decimal x) more)
+      ∙ ap (λ (z : List ℕ). z ++ more) (sym (flat_map-append (λ (x : ℕ). 32 ∷ decimal x) region (x ∷ []) ∙ ap (λ (z : List ℕ). after_spaces region ++ z) (append-nil (32 ∷ decimal x))))));
   below = All-append (λ x. x < gates) region (x ∷ []) h.below (λ k d l. (let e : k ≡ 0 = omega (arith, l) in rw e b));
   onward = λ others after a e. (let (left, l, r) = h.onward others after a e in
-    let (y, ys, c, d, f) = next_number gates rest last space left after l r in
-    (ys, d, (number_unique x y more (after_spaces ys ++ 10 ∷ after) (omega (arith, small, b)) (omega (arith, small, c)) ends (after_ends ys after) (sym number ∙ f)).1)); }
+      let (y, ys, c, d, f) = next_number gates rest last space left after l r in
+      (ys, d, (number_unique x y more (after_spaces ys ++ 10 ∷ after) (omega (arith, small, b)) (omega (arith, small, c)) ends (after_ends ys after) (sym number ∙ f)).1));
+}
 
 -- what ends the reading: no number, one that is too large, or no line feed
 pub front_no_number : (gates : ℕ) (bytes region rest last : List ℕ) → gates < 2 ^ 32 → ReadsFront gates bytes region rest → rest ≡ 32 ∷ last →

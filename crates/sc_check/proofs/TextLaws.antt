@@ -1,12 +1,11 @@
 -- A text in the grammar has no bad line, and is that of one schedule; a text has one first bad line.
-use Rattle.std.proofs.Common.{◌≡◌, ◌≢◌, ℕ, zero, suc, ◌+◌, ◌<◌, ◌≤◌, ◌^◌, Bool, true, false, List, [], ◌∷◌, ◌++◌, length, map, refl, sym, ap, ◌∙◌, subst, arith, ◌⊎◌, inl, inr, append_assoc, append-nil}
+use Rattle.std.proofs.Common.{◌≡◌, ◌≢◌, ℕ, suc, ◌+◌, ◌<◌, ◌≤◌, ◌^◌, Bool, true, false, List, [], ◌∷◌, ◌++◌, length, map, refl, sym, ap, ◌∙◌, subst, arith, inl, inr, append_assoc, append-nil}
 use Rattle.std.specs.Prelude.{codes, All, flat_map, decimal}
-use Rattle.std.proofs.lemmas.Bool.{false≢true}
 use Rattle.std.proofs.lemmas.List.Concat.{flat_map-append}
 use Rattle.sc_gate.specs.Lines.{number_line}
 use Rattle.sc_sched.specs.declared.plan.Plan.{Plan}
 use Rattle.sc_sched.specs.Legal.{Region, Step}
-use Rattle.sc_sched.specs.Text.{after_spaces, region_line, step_text, head_text, schedule_text, IsSize, IsWritable, HasText, IsTextOf, Stage, Title, Regions, Width, Gates, Steps, Body, Over, BeginsStep, AddsRegion, EndsText, NumberLine, InPlace, AllInPlace, joined, IsBadFrom, IsBadLine}
+use Rattle.sc_sched.specs.Text.{after_spaces, region_line, step_text, schedule_text, IsSize, IsWritable, HasText, IsTextOf, Stage, Title, Regions, Width, Gates, Steps, Body, Over, NumberLine, InPlace, AllInPlace, joined, IsBadLine}
 use Rattle.sc_check.proofs.ReaderLemmas.{head_is, tail_is, append_cancel, number_unique, after_ends, line_parts, region_parts}
 use Rattle.sc_check.proofs.LineLemmas.{in_place-append}
 
@@ -27,7 +26,7 @@ positions_same gates [] (y ∷ ys) more after g a b h = let e : 10 ≡ 32 = head
 positions_same gates (x ∷ xs) [] more after g a b h = let e : 32 ≡ 10 = head_is 32 10 _ after h in absurd (omega (arith, e))
 positions_same gates (x ∷ xs) (y ∷ ys) more after g a b h =
     let inner : decimal x ++ (after_spaces xs ++ 10 ∷ more) ≡ decimal y ++ (after_spaces ys ++ 10 ∷ after) =
-      sym (append_assoc (decimal x) (after_spaces xs) (10 ∷ more)) ∙ (tail_is 32 32 _ _ h ∙ append_assoc (decimal y) (after_spaces ys) (10 ∷ after)) in
+    sym (append_assoc (decimal x) (after_spaces xs) (10 ∷ more)) ∙ (tail_is 32 32 _ _ h ∙ append_assoc (decimal y) (after_spaces ys) (10 ∷ after)) in
     let p : x < gates = a 0 x (omega arith) in
     let q : y < gates = b 0 y (omega arith) in
     let r = number_unique x y (after_spaces xs ++ 10 ∷ more) (after_spaces ys ++ 10 ∷ after) (omega (arith, p, g)) (omega (arith, q, g)) (after_ends xs more) (after_ends ys after) inner in
@@ -55,7 +54,7 @@ regions_same gates [] (y ∷ t) more after g a b o p h = absurd (not_region y (f
 regions_same gates (x ∷ s) [] more after g a b o p h = absurd (not_region x (flat_map region_line s ++ more) after p (sym h ∙ append_assoc (region_line x) (flat_map region_line s) more))
 regions_same gates (x ∷ s) (y ∷ t) more after g a b o p h =
     let r = region_same gates x y (flat_map region_line s ++ more) (flat_map region_line t ++ after) g (a 0 x (omega arith)) (b 0 y (omega arith))
-      (sym (append_assoc (region_line x) (flat_map region_line s) more) ∙ (h ∙ append_assoc (region_line y) (flat_map region_line t) after)) in
+    (sym (append_assoc (region_line x) (flat_map region_line s) more) ∙ (h ∙ append_assoc (region_line y) (flat_map region_line t) after)) in
     let q = regions_same gates s t more after g (λ k d l. a (suc k) d (omega (arith, l))) (λ k d l. b (suc k) d (omega (arith, l))) o p r.1 in
     (ap (λ (z : Region). z ∷ s) r.0 ∙ ap (λ (z : Step). y ∷ z) q.0, q.1)
 
@@ -75,7 +74,7 @@ steps_same gates [] (t ∷ ts) g a b h = let e : 101 ≡ 115 = head_is 101 115 _
 steps_same gates (s ∷ ss) [] g a b h = let e : 115 ≡ 101 = head_is 115 101 _ _ (sym (step_parts s ss) ∙ h) in absurd (omega (arith, e))
 steps_same gates (s ∷ ss) (t ∷ ts) g a b h =
     let r = regions_same gates s t (flat_map step_text ss ++ codes "end\n") (flat_map step_text ts ++ codes "end\n") g (a 0 s (omega arith)) (b 0 t (omega arith)) (steps_other ss) (steps_other ts)
-      (append_cancel (codes "step\n") _ _ (sym (step_parts s ss) ∙ (h ∙ step_parts t ts))) in
+    (append_cancel (codes "step\n") _ _ (sym (step_parts s ss) ∙ (h ∙ step_parts t ts))) in
     ap (λ (z : Step). z ∷ ss) r.0 ∙ ap (λ (z : List Step). t ∷ z) (steps_same gates ss ts g (λ k d l. a (suc k) d (omega (arith, l))) (λ k d l. b (suc k) d (omega (arith, l))) r.1)
 
 text_parts : (s : Plan) → schedule_text s ≡ codes "sched 1\n" ++ (number_line (codes "regions") s.k ++ (number_line (codes "width") s.d ++ (number_line (codes "gates") s.gates
@@ -102,7 +101,7 @@ one_schedule_of gates text s t g p q =
     let i : length s.steps ≤ 4294967295 = p.has_text.steps in let j : length t.steps ≤ 4294967295 = q.has_text.steps in
     let m = number_same (codes "steps") (length s.steps) (length t.steps) _ _ (omega (arith, i)) (omega (arith, j)) n.1 in
     let steps : s.steps ≡ t.steps = steps_same gates s.steps t.steps (omega (arith, g))
-      (subst (λ (z : ℕ). All (λ step. All (IsWritable z) step) s.steps) e p.has_text.regions) (subst (λ (z : ℕ). All (λ step. All (IsWritable z) step) t.steps) f q.has_text.regions) m.1 in
+    (subst (λ (z : ℕ). All (λ step. All (IsWritable z) step) s.steps) e p.has_text.regions) (subst (λ (z : ℕ). All (λ step. All (IsWritable z) step) t.steps) f q.has_text.regions) m.1 in
     ap (λ (z : ℕ). plan_of z s.d s.gates s.steps) r.0 ∙ (ap (λ (z : ℕ). plan_of t.k z s.gates s.steps) w.0 ∙ (ap (λ (z : ℕ). plan_of t.k t.d z s.steps) n.0 ∙ ap (plan_of t.k t.d t.gates) steps))
 
 -- a line in its place is read one way
@@ -129,7 +128,7 @@ heads_differ a b x y c d cs ds e f apart h = apart (head_is c d (cs ++ x) (ds ++
 body_one : (gates : ℕ) (begun : Bool) (left : ℕ) (a b : List ℕ) (n m : Stage) (more after : List ℕ) → gates < 2 ^ 32 → InPlace gates (Body begun left) a n → InPlace gates (Body begun left) b m → a ++ more ≡ b ++ after → OneLine a b n m more after
 body_one gates begun left a b n m more after g (inl p) (inl q) h =
     text_one (codes "step\n") a b n m more after p.line_is q.line_is
-      (let e : suc p.left ≡ suc q.left = left_same p.begun q.begun (suc p.left) (suc q.left) (sym p.stage_is ∙ q.stage_is) in let f : p.left ≡ q.left = omega (arith, e) in p.next_is ∙ (ap (Body true) f ∙ sym q.next_is)) h
+    (let e : suc p.left ≡ suc q.left = left_same p.begun q.begun (suc p.left) (suc q.left) (sym p.stage_is ∙ q.stage_is) in let f : p.left ≡ q.left = omega (arith, e) in p.next_is ∙ (ap (Body true) f ∙ sym q.next_is)) h
 body_one gates begun left a b n m more after g (inl p) (inr (inl q)) h = absurd (heads_differ a b more after 115 114 _ _ p.line_is q.line_is (λ e. omega (arith, e)) h)
 body_one gates begun left a b n m more after g (inl p) (inr (inr q)) h = absurd (heads_differ a b more after 115 101 _ _ p.line_is q.line_is (λ e. omega (arith, e)) h)
 body_one gates begun left a b n m more after g (inr (inl p)) (inl q) h = absurd (heads_differ a b more after 114 115 _ _ p.line_is q.line_is (λ e. omega (arith, e)) h)
@@ -175,18 +174,22 @@ body_lines steps = flat_map step_lines steps ++ codes "end\n" ∷ []
 
 regions_here : (gates left : ℕ) (step : Step) → All (IsWritable gates) step → AllInPlace gates (Body true left) (map region_line step) (Body true left)
 regions_here gates left [] h = refl
-regions_here gates left (r ∷ step) h =
-    (Body true left, inr (inl (record { left = left; region = r; writable = h 0 r (omega arith); stage_is = refl; line_is = refl; next_is = refl })),
-      regions_here gates left step (λ k d l. h (suc k) d (omega (arith, l))))
+regions_here gates left (r ∷ step) h = (
+  Body true left,
+  inr (inl (record { left = left; region = r; writable = h 0 r (omega arith); stage_is = refl; line_is = refl; next_is = refl })),
+  regions_here gates left step (λ k d l. h (suc k) d (omega (arith, l))),
+)
 
 body_here : (gates : ℕ) (begun : Bool) (steps : List Step) → All (λ step. All (IsWritable gates) step) steps → AllInPlace gates (Body begun (length steps)) (body_lines steps) Over
 unfolding body_lines step_lines
 body_here gates begun [] h = (Over, inr (inr (record { begun = begun; stage_is = refl; line_is = refl; next_is = refl })), refl)
-body_here gates begun (s ∷ steps) h =
-    (Body true (length steps), inl (record { begun = begun; left = length steps; stage_is = refl; line_is = refl; next_is = refl }),
-      subst (λ (z : List (List ℕ)). AllInPlace gates (Body true (length steps)) z Over) (sym (append_assoc (map region_line s) (flat_map step_lines steps) (codes "end\n" ∷ [])))
-        (in_place-append gates (Body true (length steps)) (Body true (length steps)) Over (map region_line s) (body_lines steps) (regions_here gates (length steps) s (h 0 s (omega arith)))
-          (body_here gates true steps (λ k d l. h (suc k) d (omega (arith, l))))))
+body_here gates begun (s ∷ steps) h = (
+  Body true (length steps),
+  inl (record { begun = begun; left = length steps; stage_is = refl; line_is = refl; next_is = refl }),
+  subst (λ (z : List (List ℕ)). AllInPlace gates (Body true (length steps)) z Over) (sym (append_assoc (map region_line s) (flat_map step_lines steps) (codes "end\n" ∷ [])))
+      (in_place-append gates (Body true (length steps)) (Body true (length steps)) Over (map region_line s) (body_lines steps) (regions_here gates (length steps) s (h 0 s (omega arith)))
+      (body_here gates true steps (λ k d l. h (suc k) d (omega (arith, l))))),
+)
 
 joined_lines : (step : Step) → joined (map region_line step) ≡ flat_map region_line step
 joined_lines [] = refl
@@ -197,7 +200,7 @@ unfolding body_lines step_lines
 joined_body [] = refl
 joined_body (s ∷ steps) =
     ap (λ (z : List ℕ). codes "step\n" ++ z) (ap joined (append_assoc (map region_line s) (flat_map step_lines steps) (codes "end\n" ∷ []))
-      ∙ (flat_map-append (λ line. line) (map region_line s) (body_lines steps) ∙ (ap (λ (z : List ℕ). z ++ joined (body_lines steps)) (joined_lines s) ∙ ap (λ (z : List ℕ). flat_map region_line s ++ z) (joined_body steps))))
+    ∙ (flat_map-append (λ line. line) (map region_line s) (body_lines steps) ∙ (ap (λ (z : List ℕ). z ++ joined (body_lines steps)) (joined_lines s) ∙ ap (λ (z : List ℕ). flat_map region_line s ++ z) (joined_body steps))))
     ∙ sym (step_parts s steps)
 
 text_lines : Plan → List (List ℕ)
@@ -205,10 +208,27 @@ text_lines s = codes "sched 1\n" ∷ number_line (codes "regions") s.k ∷ numbe
 
 lines_here : (gates : ℕ) (s : Plan) → s.gates ≡ gates → HasText s → AllInPlace gates Title (text_lines s) Over
 unfolding text_lines
-lines_here gates s e h =
-    (Regions, (refl, refl), (Width, record { number = s.k; allowed = h.k; line_is = refl; next_is = refl }, (Gates, record { number = s.d; allowed = h.d; line_is = refl; next_is = refl },
-      (Steps, record { number = s.gates; allowed = e; line_is = refl; next_is = refl }, (Body false (length s.steps), record { number = length s.steps; allowed = h.steps; line_is = refl; next_is = refl },
-      body_here gates false s.steps (subst (λ (z : ℕ). All (λ step. All (IsWritable z) step) s.steps) e h.regions))))))
+lines_here gates s e h = (
+  Regions,
+  (refl, refl),
+  (
+    Width,
+    record { number = s.k; allowed = h.k; line_is = refl; next_is = refl },
+    (
+      Gates,
+      record { number = s.d; allowed = h.d; line_is = refl; next_is = refl },
+      (
+        Steps,
+        record { number = s.gates; allowed = e; line_is = refl; next_is = refl },
+        (
+          Body false (length s.steps),
+          record { number = length s.steps; allowed = h.steps; line_is = refl; next_is = refl },
+          body_here gates false s.steps (subst (λ (z : ℕ). All (λ step. All (IsWritable z) step) s.steps) e h.regions),
+        ),
+      ),
+    ),
+  ),
+)
 
 joined_text : (s : Plan) → joined (text_lines s) ≡ schedule_text s
 unfolding text_lines

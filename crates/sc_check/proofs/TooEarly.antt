@@ -1,16 +1,15 @@
 -- A gate stands too early exactly where it does not come after the last earlier gates on its wires, if no earlier gate stands too early.
-use Rattle.std.proofs.Common.{◌≡◌, ℕ, zero, suc, ◌+◌, ◌<◌, ◌≤◌, Bool, true, false, Option, Some, None, List, [], ◌∷◌, length, get_or, refl, sym, ap, ◌∙◌, subst, arith, ◌⊎◌, inl, inr, add-one}
+use Rattle.std.proofs.Common.{◌≡◌, ℕ, suc, ◌+◌, ◌<◌, ◌≤◌, Bool, true, false, Option, Some, None, List, [], ◌∷◌, length, get_or, refl, sym, ap, ◌∙◌, arith, inl, inr, add-one}
 use Rattle.std.proofs.lemmas.Option.{slice_get-get_or}
-use Rattle.std.specs.Prelude.{nat_le, slice_get, ◌&&◌, ◌||◌, if◌then◌else◌}
+use Rattle.std.specs.Prelude.{nat_le, slice_get, ◌&&◌, if◌then◌else◌}
 use Rattle.std.specs.List.{list_any}
-use Rattle.std.proofs.lemmas.Bool.{false≢true, cases_Bool, cases_lt, leb-true, le-leb}
+use Rattle.std.proofs.lemmas.Bool.{false≢true, cases_lt, leb-true, le-leb}
 use Rattle.sc_gate.specs.declared.gate.Wire.{Wire}
 use Rattle.sc_gate.specs.declared.gate.Gate.{Gate}
 use Rattle.sc_gate.specs.Gates.{operands}
-use Rattle.sc_gate.specs.Wires.{same_wire, member}
+use Rattle.sc_gate.specs.Wires.{member}
 use Rattle.sc_gate.proofs.WireLemmas.{member_here, member_later, member_cases}
 use Rattle.sc_sched.specs.Gates.{has_wire, last_on, shares}
-use Rattle.sc_sched.specs.Schedule.{positions}
 use Rattle.sc_sched.proofs.Count.{and_left, and_right, both, either, or_left, or_right, same_truth}
 use Rattle.sc_sched.proofs.LastOn.{has_at, LastOn, last_is, LastFrom, last_from, SharedWire, shared_wire, shares_by, any_below, some_below_any}
 use Rattle.sc_check.specs.declared.places.Stands.{Stands}
@@ -27,8 +26,9 @@ some_wire p (v ∷ ws) h = elim (either (p v) _ h) [ inl a ↦ (v, member_here v
 -- where a gate is not too early, an earlier one that shares a wire stands in an earlier step
 pub goes_before : (gates : List Gate) (step : ℕ → ℕ) (x y : ℕ) → early_by gates step y ≡ false → x < y → shares gates x y ≡ true → step x < step y
 goes_before gates step x y h l s = elim (cases_lt (step x) (step y)) [
-    inl k ↦ k
-  | inr g ↦ absurd (false≢true (sym h ∙ any_below (λ x. shares gates x y && nat_le (step y) (step x)) y x l (both _ _ s (le-leb _ _ g)))) ]
+  | inl k ↦ k
+  | inr g ↦ absurd (false≢true (sym h ∙ any_below (λ x. shares gates x y && nat_le (step y) (step x)) y x l (both _ _ s (le-leb _ _ g))))
+]
 
 not_before_some : (places : List Stands) (s : ℕ) (o : Option ℕ) → not_before places s o ≡ true → (p : ℕ) × (o ≡ Some p) × (s ≤ step_at places p)
 not_before_some places s None h = absurd (false≢true h)
@@ -44,20 +44,21 @@ early_here gates places x gate last here is h =
     let st : ℕ → ℕ = step_at places in
     same_truth _ _
     (λ t. (let (w, m, k) = some_wire (λ w. not_before places (st x) (last w)) (operands gate) t in
-      let (p, e, l) = not_before_some places (st x) (last w) k in
-      let r : LastOn gates w x p = last_is gates w x p (sym (is w) ∙ e) in
-      any_below (λ y. shares gates y x && nat_le (st x) (st y)) x p r.below
-        (both _ _ (shares_by gates p x w r.has (has_here gates x gate w here ∙ m)) (le-leb (st x) (st p) l))))
+    let (p, e, l) = not_before_some places (st x) (last w) k in
+    let r : LastOn gates w x p = last_is gates w x p (sym (is w) ∙ e) in
+    any_below (λ y. shares gates y x && nat_le (st x) (st y)) x p r.below
+    (both _ _ (shares_by gates p x w r.has (has_here gates x gate w here ∙ m)) (le-leb (st x) (st p) l))))
     (λ t. (let (y, l, k) = some_below_any (λ y. shares gates y x && nat_le (st x) (st y)) x t in
-      let s : SharedWire gates y x = shared_wire gates y x (and_left (shares gates y x) _ k) in
-      let later : st x ≤ st y = leb-true _ _ (and_right (shares gates y x) _ k) in
-      let r : LastFrom gates s.wire x y = last_from gates s.wire x y l s.first in
-      let f : LastOn gates s.wire x r.at = last_is gates s.wire x r.at r.is in
-      let up : st y ≤ st r.at = elim (cases_lt y r.at) [
-          inl b ↦ (let k : st y < st r.at = goes_before gates st y r.at (h r.at f.below) b (shares_by gates y r.at s.wire s.first f.has) in omega (arith, k))
-        | inr g ↦ (let e : y ≡ r.at = omega (arith, g, r.not_before) in omega (arith, ap st e)) ] in
-      wire_any (λ w. not_before places (st x) (last w)) (operands gate) s.wire (sym (has_here gates x gate s.wire here) ∙ s.second)
-        (ap (not_before places (st x)) (is s.wire ∙ r.is) ∙ le-leb (st x) (st r.at) (omega (arith, later, up)))))
+    let s : SharedWire gates y x = shared_wire gates y x (and_left (shares gates y x) _ k) in
+    let later : st x ≤ st y = leb-true _ _ (and_right (shares gates y x) _ k) in
+    let r : LastFrom gates s.wire x y = last_from gates s.wire x y l s.first in
+    let f : LastOn gates s.wire x r.at = last_is gates s.wire x r.at r.is in
+    let up : st y ≤ st r.at = elim (cases_lt y r.at) [
+      | inl b ↦ (let k : st y < st r.at = goes_before gates st y r.at (h r.at f.below) b (shares_by gates y r.at s.wire s.first f.has) in omega (arith, k))
+      | inr g ↦ (let e : y ≡ r.at = omega (arith, g, r.not_before) in omega (arith, ap st e))
+    ] in
+    wire_any (λ w. not_before places (st x) (last w)) (operands gate) s.wire (sym (has_here gates x gate s.wire here) ∙ s.second)
+    (ap (not_before places (st x)) (is s.wire ∙ r.is) ∙ le-leb (st x) (st r.at) (omega (arith, later, up)))))
 
 -- the last gates on the wires, after one more gate
 pub last_more : (gates : List Gate) (x : ℕ) (gate : Gate) (w : Wire) (now old : Option ℕ) → slice_get gates x ≡ Some gate →

@@ -1,11 +1,10 @@
 -- The first breach of the rules of a legal schedule.
-use Rattle.std.specs.Prelude.{◌≡◌, ℕ, suc, ◌+◌, ◌<◌, ◌==◌, ◌&&◌, not, Bool, true, false, Option, Some, None, unwrap_or, option_map, List, length, nat_lt, nat_le, position}
+use Rattle.std.specs.Prelude.{ℕ, ◌+◌, not, Bool, true, Option, Some, None, unwrap_or, option_map, List, length, nat_lt, position}
 use Rattle.std.specs.List.{list_any, sum_by}
 use Rattle.sc_gate.specs.declared.gate.Gate.{Gate}
 use Rattle.sc_sched.specs.declared.plan.Plan.{Plan}
 use Rattle.sc_gate.specs.declared.gate.Kind.{Kind}
-use Rattle.sc_sched.specs.Gates.{arity_at, kind_at, same_kind, shares}
-use Rattle.sc_sched.specs.Schedule.{positions}
+use Rattle.sc_sched.specs.Gates.{arity_at, kind_at, same_kind}
 use Rattle.sc_sched.specs.Legal.{Region, Step, placed, times_placed, step_of}
 use Rattle.sc_check.specs.Places.{lowest}
 use Rattle.sc_check.specs.Early.{early_by}
@@ -52,10 +51,10 @@ has_mixed_kinds gates step = list_any (is_mixed gates) step
 abbrev pub first_breach : (missing twice early crowded wide mixed : Option ℕ) → Finding
 first_breach missing twice early crowded wide mixed =
     unwrap_or (option_map Missing missing) (unwrap_or (option_map Twice twice) (unwrap_or (option_map Early early)
-      (unwrap_or (option_map TooManyRegions crowded) (unwrap_or (option_map TooWideRegion wide) (unwrap_or (option_map MixedKinds mixed) Legal)))))
+    (unwrap_or (option_map TooManyRegions crowded) (unwrap_or (option_map TooWideRegion wide) (unwrap_or (option_map MixedKinds mixed) Legal)))))
 
 -- the first breach of the rules of a legal schedule, with the lowest such position or step
 abbrev pub finding : List Gate → Plan → Finding
 finding gates s =
     first_breach (lowest (is_missing s.steps) (length gates)) (lowest (is_twice s.steps) (length gates)) (lowest (is_early gates s.steps) (length gates))
-      (lowest_step (has_many_regions s.k) s.steps) (lowest_step (has_wide_region gates s.d) s.steps) (lowest_step (has_mixed_kinds gates) s.steps)
+    (lowest_step (has_many_regions s.k) s.steps) (lowest_step (has_wide_region gates s.d) s.steps) (lowest_step (has_mixed_kinds gates) s.steps)

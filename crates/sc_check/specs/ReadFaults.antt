@@ -1,7 +1,7 @@
 -- What the reader of schedule texts has read.
-use Rattle.std.specs.Prelude.{◌≡◌, ℕ, ◌+◌, ◌<◌, ◌≤◌, false, List, ◌++◌, length, codes, flat_map, All}
+use Rattle.std.specs.Prelude.{◌≡◌, ℕ, ◌+◌, ◌≤◌, false, List, ◌++◌, length, codes, flat_map, All}
 use Rattle.sc_sched.specs.Legal.{Region, Step}
-use Rattle.sc_sched.specs.Text.{region_line, step_text, IsWritable, Stage, Body, IsBadFrom, IsBadLine}
+use Rattle.sc_sched.specs.Text.{region_line, step_text, IsWritable, Body, IsBadFrom, IsBadLine}
 use Rattle.sc_check.specs.declared.text_reader.SchedReadFault.{SchedReadFault}
 use Rattle.sc_check.specs.declared.text_reader.SchedReadFault.TheVariants.{BadSchedule, Memory}
 

@@ -1,5 +1,5 @@
 -- What a text begins with.
-use Rattle.std.specs.Prelude.{◌≡◌, ℕ, ◌<◌, false, List, [], ◌∷◌, ◌++◌}
+use Rattle.std.specs.Prelude.{◌≡◌, ℕ, false, List, [], ◌∷◌}
 use Rattle.std.specs.Char.{is_ascii_digit}
 
 -- no digit stands here

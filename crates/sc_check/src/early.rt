@@ -54,7 +54,11 @@ fn is_early(last: &WireTable, places: &[Stands], gate: &Gate, step: u32) -> bool
 }
 
 /// The lowest gate that stands in a step not later than that of an earlier gate that shares a wire, where every gate stands once.
-pub(crate) fn first_early(alloc: Global, gates: &[Gate], places: &[Stands]) -> Result<Option<u32>, Memory>
+pub(crate) fn first_early(
+    alloc: Global,
+    gates: &[Gate],
+    places: &[Stands],
+) -> Result<Option<u32>, Memory>
     requires gates { length gates.now ≤ 4194304 }
     requires places { length places.now ≡ length gates.now }
     ensures { IfOk result (λ x. x ≡ lowest (early_by gates.now (step_at places.now)) (length gates.now)) }

@@ -67,7 +67,12 @@ pub(crate) fn take_number(bytes: &[u8]) -> Option<(u32, &[u8])>
 }
 
 /// The number from `low` to `high` with whose line the bytes begin, and what follows the line.
-pub(crate) fn take_number_line<'a>(bytes: &'a [u8], word: &[u8], low: u32, high: u32) -> Option<(u32, &'a [u8])>
+pub(crate) fn take_number_line<'a>(
+    bytes: &'a [u8],
+    word: &[u8],
+    low: u32,
+    high: u32,
+) -> Option<(u32, &'a [u8])>
     ensures some { IfSome result (λ r. bytes.now ≡ number_line word.now r.0 ++ r.1.now) }
     ensures allowed { IfSome result (λ r. (low ≤ r.0) × (r.0 ≤ high)) }
     ensures none { IfNone result ((n : ℕ) (more : Values ℕ) → low ≤ n → n ≤ high → bytes.now ≡ number_line word.now n ++ more → ⊥) }
@@ -92,7 +97,11 @@ pub(crate) fn take_number_line<'a>(bytes: &'a [u8], word: &[u8], low: u32, high:
 
 /// The positions, each below `gates` and after a space, with which the bytes begin before a line feed, and what follows
 /// it. None where they begin with no such positions.
-fn take_positions(alloc: Global, bytes: &[u8], gates: u32) -> Result<Option<(Region, &[u8])>, Memory>
+fn take_positions(
+    alloc: Global,
+    bytes: &[u8],
+    gates: u32,
+) -> Result<Option<(Region, &[u8])>, Memory>
     ensures some { IfOk result (λ found. IfSome found (λ r. bytes.now ≡ after_spaces r.0 ++ 10 ∷ r.1.now)) }
     ensures below { IfOk result (λ found. IfSome found (λ r. All (λ x. x < gates) r.0)) }
     ensures none { IfOk result (λ found. IfNone found ((region more : Values ℕ) → All (λ x. x < gates) region → bytes.now ≡ after_spaces region ++ 10 ∷ more → ⊥)) }
@@ -116,7 +125,11 @@ fn take_positions(alloc: Global, bytes: &[u8], gates: u32) -> Result<Option<(Reg
 }
 
 /// The region with whose line the bytes begin, and what follows the line. None where they begin with no such line.
-pub(crate) fn take_region_line(alloc: Global, bytes: &[u8], gates: u32) -> Result<Option<(Region, &[u8])>, Memory>
+pub(crate) fn take_region_line(
+    alloc: Global,
+    bytes: &[u8],
+    gates: u32,
+) -> Result<Option<(Region, &[u8])>, Memory>
     ensures some { IfOk result (λ found. IfSome found (λ r. bytes.now ≡ region_line r.0 ++ r.1.now)) }
     ensures writable { IfOk result (λ found. IfSome found (λ r. IsWritable gates r.0)) }
     ensures none { IfOk result (λ found. IfNone found ((region more : Values ℕ) → IsWritable gates region → bytes.now ≡ region_line region ++ more → ⊥)) }

@@ -77,18 +77,25 @@ fn breaches_of_regions(rt: HostRuntime) -> Result<(), Fail> {
         single(Kind::H, 1),
         single(Kind::H, 1),
     ];
-    let wide = b"sched 1\nregions 1\nwidth 2\ngates 4\nsteps 1\nstep\nregion 0 1 2 3\nend\n".as_slice();
+    let wide =
+        b"sched 1\nregions 1\nwidth 2\ngates 4\nsteps 1\nstep\nregion 0 1 2 3\nend\n".as_slice();
     assert_eq!(rt; found(rt.alloc(), &four, wide)?, Finding::TooWideRegion(1));
-    let crowded = b"sched 1\nregions 1\nwidth 2\ngates 4\nsteps 1\nstep\nregion 0 1\nregion 2 3\nend\n".as_slice();
-    assert_eq!(rt; found(rt.alloc(), &four, crowded)?, Finding::TooManyRegions(1));
-    let kinds = b"sched 1\nregions 1\nwidth 2\ngates 4\nsteps 3\nstep\nregion 0 1\nstep\nregion 2\nstep\nregion 3\nend\n".as_slice();
+    let crowded =
+        b"sched 1\nregions 1\nwidth 2\ngates 4\nsteps 1\nstep\nregion 0 1\nregion 2 3\nend\n".as_slice();
+    assert_eq!(rt;
+        found(rt.alloc(), &four, crowded)?,
+        Finding::TooManyRegions(1)
+    );
+    let kinds =
+        b"sched 1\nregions 1\nwidth 2\ngates 4\nsteps 3\nstep\nregion 0 1\nstep\nregion 2\nstep\nregion 3\nend\n".as_slice();
     assert_eq!(rt; found(rt.alloc(), &mixed, kinds)?, Finding::MixedKinds(1));
     Ok(())
 }
 
 #[test]
 fn texts_in_and_out(rt: HostRuntime) -> Result<(), Fail> {
-    let text = b"sched 1\nregions 1\nwidth 2\ngates 4\nsteps 2\nstep\nregion 0 1\nstep\nregion 2 3\nend\n".as_slice();
+    let text =
+        b"sched 1\nregions 1\nwidth 2\ngates 4\nsteps 2\nstep\nregion 0 1\nstep\nregion 2 3\nend\n".as_slice();
     let s = read_schedule(rt.alloc(), text, 4)?;
     let mut sink = MemSink::new(rt.alloc(), 5, 100)?;
     write_schedule(&s, &mut sink)?;

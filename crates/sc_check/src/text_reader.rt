@@ -49,7 +49,12 @@ pub fn read_schedule(alloc: Global, text: &[u8], gates: u32) -> Result<Plan, Sch
 }
 
 /// The steps of a text after its five first lines, of which so many have to follow.
-fn read_steps(alloc: Global, text: &[u8], gates: u32, count: u32) -> Result<List<Step>, SchedReadFault>
+fn read_steps(
+    alloc: Global,
+    text: &[u8],
+    gates: u32,
+    count: u32,
+) -> Result<List<Step>, SchedReadFault>
     requires { length text.now ≤ 134217728 }
     ensures ok { IfOk result (λ steps. ReadsBody gates count text.now steps) }
     ensures fault { IfErr result (λ fault. IsBodyFault gates count text.now fault) }

@@ -10,7 +10,7 @@ use Rattle.sc_check.proofs.places.first_missing.Goals.{in-Nowhere, in_default}
 pub returns-then-matches : goal.returns-then-matches
 returns-then-matches c =
     let here : is_nowhere (slice_index_or c.args.places.now c.loop-x.x Nowhere) ≡ true =
-      elim c.match-matches.branch [ in-Nowhere w ↦ ap is_nowhere w.in-Nowhere.is | in_default w ↦ absurd (false≢true (sym w.matches-is ∙ c.if-matches.true)) ] in
+    elim c.match-matches.branch [ in-Nowhere w ↦ ap is_nowhere w.in-Nowhere.is | in_default w ↦ absurd (false≢true (sym w.matches-is ∙ c.if-matches.true)) ] in
     sym (lowest_found _ _ c.loop-x.x c.loop-x-test.true c.loop-x.invariant here)
 
 pub returns : goal.returns

@@ -1,4 +1,4 @@
-use Rattle.std.proofs.Common.{◌<◌, get_or, length, ◌≡◌, arith}
+use Rattle.std.proofs.Common.{◌<◌, get_or, length, arith}
 use Rattle.sc_check.proofs.Placing.{mark_more}
 use Rattle.sc_check.proofs.places.mark_region.Goals as goal
 

@@ -1,4 +1,4 @@
-use Rattle.std.proofs.Common.{◌≡◌, ℕ, ◌<◌, ◌==◌, length, take, slice_index_or}
+use Rattle.std.proofs.Common.{◌≡◌, ℕ, ◌<◌, length, take, slice_index_or}
 use Rattle.sc_sched.specs.Legal.{times_in}
 use Rattle.sc_check.specs.Places.{marked_times}
 use Rattle.sc_check.specs.declared.places.Stands.TheVariants.{Nowhere}

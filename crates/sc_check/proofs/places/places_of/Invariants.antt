@@ -1,4 +1,4 @@
-use Rattle.std.proofs.Common.{◌≡◌, ℕ, ◌<◌, ◌==◌, length, take, slice_index_or}
+use Rattle.std.proofs.Common.{◌≡◌, ℕ, ◌<◌, length, take, slice_index_or}
 use Rattle.sc_check.specs.Places.{found_at}
 use Rattle.sc_check.specs.declared.places.Stands.TheVariants.{Nowhere}
 use Rattle.sc_check.proofs.places.places_of.Given as goal

@@ -1,5 +1,5 @@
-use Rattle.std.proofs.Common.{◌≡◌, ◌<◌, ap, length, arith, refl}
-use Rattle.sc_check.proofs.ReaderLemmas.{ReadsFront, front_more, front_no_number, front_too_large, front_no_end}
+use Rattle.std.proofs.Common.{arith}
+use Rattle.sc_check.proofs.ReaderLemmas.{front_more, front_no_number, front_too_large, front_no_end}
 use Rattle.sc_check.proofs.reader.take_positions.Goals as goal
 
 pub returns-in_default-take_number-clause-none : goal.returns-in_default-take_number-clause-none
@@ -9,12 +9,12 @@ returns-in_default-take_number-clause-none c =
 pub returns-then-position-gates-clause-none : goal.returns-then-position-gates-clause-none
 returns-then-position-gates-clause-none c =
     front_too_large c.args.gates c.args.bytes.now _ c.loop-after_space.rest.now c.in-Some.after_space.now c.in-Some-take_number.position c.in-Some-take_number.more.now (omega arith) c.in-Some-take_number.ensures.small (omega arith)
-      c.loop-after_space.invariant c.in-Some.ensures.some c.in-Some-take_number.ensures.some c.in-Some-take_number.ensures.ends
+    c.loop-after_space.invariant c.in-Some.ensures.some c.in-Some-take_number.ensures.some c.in-Some-take_number.ensures.ends
 
 pub loop-after_space-preserved : goal.loop-after_space-preserved
 loop-after_space-preserved c = rw c.in_ok-push.ensures.ok
     (front_more c.args.gates c.args.bytes.now _ c.loop-after_space.rest.now c.in-Some.after_space.now c.in-Some-take_number.position c.in-Some-take_number.more.now (omega arith) (omega arith)
-      c.loop-after_space.invariant c.in-Some.ensures.some c.in-Some-take_number.ensures.some c.in-Some-take_number.ensures.ends)
+    c.loop-after_space.invariant c.in-Some.ensures.some c.in-Some-take_number.ensures.some c.in-Some-take_number.ensures.ends)
 
 pub returns-clause-none : goal.returns-clause-none
 returns-clause-none c =

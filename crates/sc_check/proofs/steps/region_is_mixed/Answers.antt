@@ -1,4 +1,4 @@
-use Rattle.std.proofs.Common.{◌≡◌, sym, below_more, arith, refl}
+use Rattle.std.proofs.Common.{sym, below_more, arith}
 use Rattle.sc_check.proofs.MixedKinds.{mixed_now, same_now, mixed_none}
 use Rattle.sc_check.proofs.steps.region_is_mixed.Goals as goal
 

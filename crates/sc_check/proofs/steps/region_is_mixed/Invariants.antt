@@ -1,4 +1,4 @@
-use Rattle.std.proofs.Common.{◌≡◌, ℕ, ◌<◌, false, get_or}
+use Rattle.std.proofs.Common.{◌≡◌, ℕ, ◌<◌, get_or}
 use Rattle.sc_sched.specs.Gates.{kind_at}
 use Rattle.sc_check.proofs.steps.region_is_mixed.Given as goal
 

@@ -1,4 +1,4 @@
-use Rattle.std.proofs.Common.{◌≡◌, sym, arith}
+use Rattle.std.proofs.Common.{sym}
 use Rattle.sc_check.proofs.WideRegions.{wide_now}
 use Rattle.sc_check.proofs.steps.region_is_wide.Goals as goal
 

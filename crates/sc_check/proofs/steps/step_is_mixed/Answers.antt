@@ -1,4 +1,4 @@
-use Rattle.std.proofs.Common.{◌≡◌, sym, arith}
+use Rattle.std.proofs.Common.{sym, arith}
 use Rattle.sc_check.proofs.Lowest.{none_passes_at}
 use Rattle.sc_check.proofs.steps.step_is_mixed.Goals as goal
 
