@@ -42,7 +42,7 @@ IsDeck-push modules m deck new lengths body room fit = record {
 }
 
 -- a callee is an earlier body
-callee_there : {X : Type 0} (P : X → Type 0) (xs : List X) (j : ℕ) → IsSomeAnd (slice_get xs j) P → j < length xs
+pub callee_there : {X : Type 0} (P : X → Type 0) (xs : List X) (j : ℕ) → IsSomeAnd (slice_get xs j) P → j < length xs
 callee_there P [] j there = absurd there
 callee_there P (x ∷ xs) zero there = omega arith
 callee_there P (x ∷ xs) (suc j) there = let h = callee_there P xs j there in omega arith

@@ -1,18 +1,20 @@
 -- Look-ups of a key.
-use Rattle.std.proofs.Common.{◌≡◌, ℕ, Bool, true, false, cond, List, [], ◌∷◌, Option, Some, None, is_some, slice_get, get_or, position, refl, sym, ap, ◌∙◌, true≢false}
+use Rattle.std.proofs.Common.{◌-◌, length, map, ◌≡◌, ℕ, Bool, true, false, cond, List, [], ◌∷◌, Option, Some, None, is_some, slice_get, get_or, position, refl, sym, ap, ◌∙◌, true≢false}
 use Rattle.std.specs.Option.{option_map}
 use Rattle.std.specs.Map.{keys_of, lookup}
 use Rattle.std.specs.List.{AllByRecursion}
-use Rattle.std.proofs.lemmas.Option.{slice_get-map, slice_get-get_or}
+use Rattle.std.specs.Prelude.{slice_index}
+use Rattle.std.proofs.lemmas.List.{length-map}
+use Rattle.std.proofs.lemmas.Option.{get_or_from_slice_get, slice_get-map, slice_get-get_or}
 use Rattle.std.proofs.lemmas.List.Quantifiers.{position-Some}
 use Rattle.std.proofs.lemmas.List.Elements.{All-from_recursion, recursion_from_All}
 use Rattle.sc_deck.specs.declared.key.Key.{Key}
 use Rattle.sc_deck.specs.declared.entry.Entry.{Entry}
 use Rattle.sc_deck.specs.Keys.{same_key}
 use Rattle.sc_deck.specs.KeyLaws.{same_key_decides}
-use Rattle.sc_deck.specs.Modules.{Module, key_of}
+use Rattle.sc_deck.specs.Modules.{Module, key_of, reaches_of}
 use Rattle.sc_deck.specs.Decks.{IsNewKey}
-use Rattle.sc_deck.specs.Entries.{module_in, modules_in}
+use Rattle.sc_deck.specs.Entries.{module_in, modules_in, reach_in, KeepsDeck}
 
 -- the key of a module is that of its entry
 pub key_at : (entries : List (Key × Entry)) (i : ℕ) → option_map key_of (slice_get (modules_in entries) i) ≡ slice_get (keys_of entries) i
@@ -49,3 +51,10 @@ missing key (p ∷ entries) new = by (same_key key p.0) refl (missing key entrie
 
 pub lookup_new : (entries : List (Key × Entry)) (key : Key) → IsNewKey (modules_in entries) key → lookup (same_key key) entries ≡ None
 lookup_new entries key new = missing key entries (recursion_from_All (λ (m : Module). m.key ≡ key → ⊥) (modules_in entries) new)
+
+-- the reach of the last entry is the last of the reaches
+pub last_reach : (entries : List (Key × Entry)) (marks : List Bool) (p : Key × Entry) → KeepsDeck entries marks → Some p ≡ slice_get entries (length entries - 1) → p.1.reach ≡ slice_index (reaches_of (modules_in entries)) (length (modules_in entries) - 1)
+last_reach entries marks p kept at =
+    sym (get_or_from_slice_get (map reach_in entries) (length entries - 1) p.1.reach 0
+    (slice_get-map reach_in entries (length entries - 1) ∙ ap (option_map reach_in) (sym at)))
+    ∙ (λ i. slice_index (kept.reaches i) (sym (length-map entries module_in) i - 1))

@@ -5,8 +5,10 @@ pub mod DeckLemmas
 pub mod EarlierLemmas
 pub mod FindLemmas
 pub mod GateTests
+pub mod ListLemmas
 pub mod PlaceLaws
 pub mod PushLemmas
+pub mod ReachLaws
 pub mod RenameLaws
 pub mod RepeatLemmas
 pub mod SequenceLaws

@@ -1,7 +1,7 @@
 -- Which wire a local wire stands for, and how many wires of each class there are.
-use Rattle.std.proofs.Common.{◌≡◌, ℕ, zero, suc, ◌+◌, ◌<◌, Bool, true, false, cond, List, [], ◌∷◌, ◌++◌, map, filter, length, get_or, replicate, refl, sym, ap, ◌∙◌, subst, append_assoc, append-nil, length-append, arith, true≢false}
+use Rattle.std.proofs.Common.{◌≡◌, ℕ, zero, suc, ◌+◌, ◌<◌, Bool, true, false, cond, List, [], ◌∷◌, ◌++◌, map, filter, length, get_or, replicate, refl, sym, ap, ◌∙◌, subst, append-nil, length-append, arith, true≢false}
 use Rattle.std.specs.Prelude.{flat_map, fold}
-use Rattle.std.proofs.lemmas.List.{get_or-map, length-map}
+use Rattle.std.proofs.lemmas.List.{get_or-map}
 use Rattle.std.proofs.lemmas.List.Elements.{filter-append, filter_passes}
 use Rattle.sc_base.specs.declared.names.Class.{Class}
 use Rattle.sc_base.specs.declared.names.Class.TheVariants.{Q, C}
@@ -72,10 +72,10 @@ grows C Q first n numbers = let h = length_other C Q first n refl in omega arith
 
 pub Sized-item : (places : List Wire) (numbers : Numbers) (i : Item) (next : Numbers) → Sized places numbers → Sized (places ++ made_by i next) (after_item numbers i)
 Sized-item places numbers (item.Fresh other n) next sized = record {
-    count = λ class. length_more class places (wires_from other (number_of other next) n)
+  count = λ class. length_more class places (wires_from other (number_of other next) n)
       ∙ ap (λ (k : ℕ). k + length (of_class class (wires_from other (number_of other next) n))) (sized.count class)
-      ∙ grows class other (number_of other next) n numbers
-  }
+      ∙ grows class other (number_of other next) n numbers;
+}
 Sized-item places numbers (item.Gate gate) next sized = subst (λ (ws : List Wire). Sized ws numbers) (sym (append-nil places)) sized
 Sized-item places numbers (item.Call callee wires) next sized = subst (λ (ws : List Wire). Sized ws numbers) (sym (append-nil places)) sized
 Sized-item places numbers (item.Gates gate turns) next sized = subst (λ (ws : List Wire). Sized ws numbers) (sym (append-nil places)) sized
@@ -129,7 +129,7 @@ of_class_count class [] = refl
 of_class_count class (w ∷ wires) = by (same_class class w.class) (of_class_count class wires)
   where
     by : (b : Bool) → length (of_class class wires) ≡ length (filter (same_class class) (map class_of wires)) →
-      length (cond b (w ∷ of_class class wires) (of_class class wires)) ≡ length (cond b (w.class ∷ filter (same_class class) (map class_of wires)) (filter (same_class class) (map class_of wires)))
+        length (cond b (w ∷ of_class class wires) (of_class class wires)) ≡ length (cond b (w.class ∷ filter (same_class class) (map class_of wires)) (filter (same_class class) (map class_of wires)))
     by true h = ap suc h
     by false h = h
 
@@ -137,9 +137,9 @@ of_class_count class (w ∷ wires) = by (same_class class w.class) (of_class_cou
 pub Sized-params : (wires : List Wire) (key : Key) → map class_of wires ≡ param_classes key → Sized wires (params_of key)
 unfolding count
 Sized-params wires key e = record {
-    count = λ class. let h = count_args class key.args no_wires in let z = zero_of class in
-      of_class_count class wires ∙ ap (λ (cs : List Class). length (filter (same_class class) cs)) e ∙ (let f : length (filter (same_class class) (param_classes key)) ≡ number_of class (params_of key) = omega arith in f)
-  }
+  count = λ class. let h = count_args class key.args no_wires in let z = zero_of class in
+      of_class_count class wires ∙ ap (λ (cs : List Class). length (filter (same_class class) cs)) e ∙ (let f : length (filter (same_class class) (param_classes key)) ≡ number_of class (params_of key) = omega arith in f);
+}
   where
     zero_of : (class : Class) → number_of class no_wires ≡ 0
     zero_of Q = refl

@@ -1,6 +1,6 @@
 -- On other wires and from other next numbers on, a module unfolds to the same events with their wires renamed.
 use Rattle.std.proofs.Common.{◌≡◌, ℕ, zero, suc, ◌+◌, ◌<◌, List, [], ◌∷◌, ◌++◌, map, length, slice_get, Option, Some, None, refl, sym, ap, ◌∙◌, subst, append_assoc, append-nil, length-append, ◌≤◌, arith, inl, inr, ◌⊎◌}
-use Rattle.std.specs.Prelude.{option_to_list, IsSomeAnd, All}
+use Rattle.std.specs.Prelude.{option_to_list, IsSomeAnd}
 use Rattle.std.specs.Option.{option_map}
 use Rattle.std.specs.List.{AllByRecursion}
 use Rattle.std.proofs.lemmas.Bool.{cases_lt}
@@ -16,14 +16,15 @@ use Rattle.sc_deck.specs.declared.item.Item.TheVariants as item
 use Rattle.sc_deck.specs.Bodies.{ItemsFit, IsBody}
 use Rattle.sc_deck.specs.Decks.{CallFits, ItemCallFits, CallsFit, CallEarlier, IsDeck}
 use Rattle.sc_deck.specs.Events.{Event, Enter, Fresh, Apply, Return, gates_in, after_events, rename_gate, rename_event}
-use Rattle.sc_deck.specs.Items.{ItemFits, GateFits, after_item}
+use Rattle.sc_deck.specs.Items.{ItemFits, after_item}
 use Rattle.sc_deck.specs.Keys.{param_classes, params_of}
 use Rattle.sc_deck.specs.Modules.{Module, body_of, from_earlier}
 use Rattle.sc_deck.specs.Numbers.{Numbers, number_of, with_more, IsThere, AreThere}
 use Rattle.sc_deck.specs.Renaming.{wire, Renames, CanRename}
 use Rattle.sc_deck.specs.Unfolding.{Unfolding, unfolding_at, unfold_item, unfold_items, unfold_module, unfoldings, unfold_on, made_by, repeated, placed, wires_from, of_class}
+use Rattle.sc_deck.proofs.ListLemmas.{slice_get_left, slice_get_last}
 use Rattle.sc_deck.proofs.PlaceLaws.{Sized, Sized-item, Sized-params, placed-map, placed-class}
-use Rattle.sc_deck.proofs.SequenceLaws.{after_events-append, unfolding_at-before, unfolding_at-seam}
+use Rattle.sc_deck.proofs.SequenceLaws.{unfolding_at-before, unfolding_at-seam}
 
 -- the gates of renamed events are the renamed gates
 pub gates_in-rename : (f : Wire → Wire) (events : List Event) → gates_in (map (rename_event f) events) ≡ map (rename_gate f) (gates_in events)
@@ -50,6 +51,7 @@ Renames-more f next next' other n renames = record { classes = renames.classes; 
         let x : a + n + k ≡ number_of class next + (n + k) = omega arith in
         let y : number_of class next' + (n + k) ≡ b + n + k = omega arith in
         ap (λ (m : ℕ). f (wire class m)) x ∙ h ∙ ap (wire class) y
+
     by : (class other : Class) (k : ℕ) → f (wire class (number_of class (with_more other n next) + k)) ≡ wire class (number_of class (with_more other n next') + k)
     by Q Q k = apart Q next.qubits next'.qubits k (renames.fresh Q (n + k)) refl refl
     by C C k = apart C next.cbits next'.cbits k (renames.fresh C (n + k)) refl refl
@@ -71,9 +73,9 @@ made_wires f class first first' (suc n) fresh =
     let b : first' + 0 ≡ first' = omega arith in
     let here : f (wire class first) ≡ wire class first' = ap (λ (m : ℕ). f (wire class m)) (sym a) ∙ fresh 0 ∙ ap (wire class) b in
     let rest = made_wires f class (suc first) (suc first') n (λ k.
-          let c : suc first + k ≡ first + suc k = omega arith in
-          let d : first' + suc k ≡ suc first' + k = omega arith in
-          ap (λ (m : ℕ). f (wire class m)) c ∙ fresh (suc k) ∙ ap (wire class) d) in
+    let c : suc first + k ≡ first + suc k = omega arith in
+    let d : first' + suc k ≡ suc first' + k = omega arith in
+    ap (λ (m : ℕ). f (wire class m)) c ∙ fresh (suc k) ∙ ap (wire class) d) in
     λ i. here i ∷ rest i
 
 made_renamed : (f : Wire → Wire) (i : Item) (next next' : Numbers) → Renames f next next' → map f (made_by i next) ≡ made_by i next'
@@ -116,7 +118,7 @@ module _ (f : Wire → Wire) (keeps : (w : Wire) → class_of (f w) ≡ class_of
 
 -- what can be renamed once can be renamed any number of times
 repeated_renamed : (f : Wire → Wire) (once once' : Numbers → List Event) → ((next next' : Numbers) → Renames f next next' → once' next' ≡ map (rename_event f) (once next)) →
-  (n : ℕ) (next next' : Numbers) → Renames f next next' → repeated n once' next' ≡ map (rename_event f) (repeated n once next)
+    (n : ℕ) (next next' : Numbers) → Renames f next next' → repeated n once' next' ≡ map (rename_event f) (repeated n once next)
 repeated_renamed f once once' same zero next next' renames = refl
 repeated_renamed f once once' same (suc n) next next' renames =
     let here = same next next' renames in
@@ -132,8 +134,8 @@ pub record EachRenames (us : List Unfolding) (modules : List Module) : Type 0 wh
   pub each : (i : ℕ) (m : Module) → slice_get modules i ≡ Some m → CanRename m (unfolding_at us i)
 
 call_renamed : (us : List Unfolding) (before : List Module) → EachRenames us before → (f : Wire → Wire) (callee : ℕ) (wires passed passed' : List Wire) (next next' : Numbers) →
-  CallFits before callee wires → map class_of passed ≡ map class_of wires → passed' ≡ map f passed → Renames f next next' →
-  unfolding_at us callee passed' next' ≡ map (rename_event f) (unfolding_at us callee passed next)
+    CallFits before callee wires → map class_of passed ≡ map class_of wires → passed' ≡ map f passed → Renames f next next' →
+    unfolding_at us callee passed' next' ≡ map (rename_event f) (unfolding_at us callee passed next)
 call_renamed us before can f callee wires passed passed' next next' fit classes same renames = by (slice_get before callee) refl fit
   where
     by : (o : Option Module) → slice_get before callee ≡ o → IsSomeAnd o (λ m. map class_of wires ≡ param_classes m.key) → unfolding_at us callee passed' next' ≡ map (rename_event f) (unfolding_at us callee passed next)
@@ -141,31 +143,31 @@ call_renamed us before can f callee wires passed passed' next next' fit classes 
     by (Some m) e h = ap (λ (ws : List Wire). unfolding_at us callee ws next') same ∙ can.each callee m e f passed next next' (classes ∙ h) renames
 
 item_renamed : (us : List Unfolding) (before : List Module) → EachRenames us before → (f : Wire → Wire) (numbers : Numbers) (places : List Wire) → Sized places numbers → (i : Item) → ItemFits numbers i → ItemCallFits before i →
-  (next next' : Numbers) → Renames f next next' → unfold_item us i (map f places) next' ≡ map (rename_event f) (unfold_item us i places next)
+    (next next' : Numbers) → Renames f next next' → unfold_item us i (map f places) next' ≡ map (rename_event f) (unfold_item us i places next)
 item_renamed us before can f numbers places sized (item.Fresh class n) fits calls next next' renames = refl
 item_renamed us before can f numbers places sized (item.Gate gate) fits calls next next' renames =
     ap (λ (g : Gate). Apply g ∷ []) (gate_renamed f renames.classes places numbers sized gate fits.there)
 item_renamed us before can f numbers places sized (item.Call callee wires) fits calls next next' renames =
     call_renamed us before can f callee wires (map (placed places) wires) (map (placed (map f places)) wires) next next' calls
-      (classes_kept f renames.classes places numbers sized wires fits.there) (wires_renamed f renames.classes places numbers sized wires fits.there) renames
+    (classes_kept f renames.classes places numbers sized wires fits.there) (wires_renamed f renames.classes places numbers sized wires fits.there) renames
 item_renamed us before can f numbers places sized (item.Gates gate turns) fits calls next next' renames =
     repeated_renamed f (λ _. Apply (rename_gate (placed places) gate) ∷ []) (λ _. Apply (rename_gate (placed (map f places)) gate) ∷ [])
-      (λ k k' r. ap (λ (g : Gate). Apply g ∷ []) (gate_renamed f renames.classes places numbers sized gate fits.0.there)) turns next next' renames
+    (λ k k' r. ap (λ (g : Gate). Apply g ∷ []) (gate_renamed f renames.classes places numbers sized gate fits.0.there)) turns next next' renames
 item_renamed us before can f numbers places sized (item.Calls callee wires turns) fits calls next next' renames =
     repeated_renamed f (unfolding_at us callee (map (placed places) wires)) (unfolding_at us callee (map (placed (map f places)) wires))
-      (λ k k' r. call_renamed us before can f callee wires (map (placed places) wires) (map (placed (map f places)) wires) k k' calls
-        (classes_kept f r.classes places numbers sized wires fits.0.there) (wires_renamed f r.classes places numbers sized wires fits.0.there) r) turns next next' renames
+    (λ k k' r. call_renamed us before can f callee wires (map (placed places) wires) (map (placed (map f places)) wires) k k' calls
+    (classes_kept f r.classes places numbers sized wires fits.0.there) (wires_renamed f r.classes places numbers sized wires fits.0.there) r) turns next next' renames
 
 -- RENAMING ITEMS
 pub unfold_items-rename : (us : List Unfolding) (before : List Module) → EachRenames us before → (f : Wire → Wire) (numbers : Numbers) (places : List Wire) → Sized places numbers → (items : List Item) → ItemsFit numbers items → CallsFit before items →
-  (next next' : Numbers) → Renames f next next' → unfold_items us items (map f places) next' ≡ map (rename_event f) (unfold_items us items places next)
+    (next next' : Numbers) → Renames f next next' → unfold_items us items (map f places) next' ≡ map (rename_event f) (unfold_items us items places next)
 unfold_items-rename us before can f numbers places sized [] fits calls next next' renames = refl
 unfold_items-rename us before can f numbers places sized (i ∷ items) fits calls next next' renames =
     let events : List Event = unfold_item us i places next in
     let here = item_renamed us before can f numbers places sized i fits.0 calls.0 next next' renames in
     let made : map f places ++ made_by i next' ≡ map f (places ++ made_by i next) = ap (λ (ws : List Wire). map f places ++ ws) (sym (made_renamed f i next next' renames)) ∙ sym (map-append f places (made_by i next)) in
     let rest = unfold_items-rename us before can f (after_item numbers i) (places ++ made_by i next) (Sized-item places numbers i next sized) items fits.1 calls.1
-          (after_events next events) (after_events next' events) (Renames-after f next next' events renames) in
+    (after_events next events) (after_events next' events) (Renames-after f next next' events renames) in
     (λ k. here k ++ unfold_items us items (made k) (after_events next' (here k)))
     ∙ ap (λ (n : Numbers). map (rename_event f) events ++ unfold_items us items (map f (places ++ made_by i next)) n) (after_events-rename f next' events)
     ∙ ap (λ (es : List Event). map (rename_event f) events ++ es) rest
@@ -177,29 +179,17 @@ module_renamed us before can m body calls f wires next next' classes renames =
     ap (λ (es : List Event). Enter m.key (map f wires) ∷ (es ++ Return m.key ∷ [])) inner
     ∙ ap (λ (es : List Event). Enter m.key (map f wires) ∷ es) (sym (map-append (rename_event f) (unfold_items us m.items wires next) (Return m.key ∷ [])))
 
-slice_get_left : {X : Type 0} (xs ys : List X) (i : ℕ) → i < length xs → slice_get (xs ++ ys) i ≡ slice_get xs i
-slice_get_left [] ys i below = absurd (omega arith)
-slice_get_left (x ∷ xs) ys zero below = refl
-slice_get_left (x ∷ xs) ys (suc i) below = let lt : i < length xs = omega arith in slice_get_left xs ys i lt
-
--- past the list there is one more element
-slice_get_last : {X : Type 0} (xs : List X) (x : X) (i : ℕ) (y : X) → length xs ≤ i → slice_get (xs ++ x ∷ []) i ≡ Some y → (i ≡ length xs) × (x ≡ y)
-slice_get_last [] x zero y late at = (refl, cc)
-slice_get_last [] x (suc i) y late at = cc
-slice_get_last (z ∷ xs) x zero y late at = absurd (omega arith)
-slice_get_last (z ∷ xs) x (suc i) y late at = let le : length xs ≤ i = omega arith in let h = slice_get_last xs x i y le at in (ap suc h.0, h.1)
-
 -- one more unfolding
 each_push : (us : List Unfolding) (before : List Module) → EachRenames us before → (m : Module) (u : Unfolding) → CanRename m u → EachRenames (us ++ u ∷ []) (before ++ m ∷ [])
 each_push us before can m u one = record {
-    long = length-append us (u ∷ []) ∙ ap (λ (n : ℕ). n + 1) can.long ∙ sym (length-append before (m ∷ []));
-    each = λ i k at. by i k at (cases_lt i (length before))
-  }
+  long = length-append us (u ∷ []) ∙ ap (λ (n : ℕ). n + 1) can.long ∙ sym (length-append before (m ∷ []));
+  each = λ i k at. by i k at (cases_lt i (length before));
+}
   where
     by : (i : ℕ) (k : Module) → slice_get (before ++ m ∷ []) i ≡ Some k → (i < length before) ⊎ (length before ≤ i) → CanRename k (unfolding_at (us ++ u ∷ []) i)
     by i k at (inl early) =
         subst (CanRename k) (sym (unfolding_at-before us (u ∷ []) i (subst (λ (n : ℕ). i < n) (sym can.long) early)))
-          (can.each i k (sym (slice_get_left before (m ∷ []) i early) ∙ at))
+        (can.each i k (sym (slice_get_left before (m ∷ []) i early) ∙ at))
     by i k at (inr late) =
         let last = slice_get_last before m i k late at in
         subst (CanRename k) (sym (ap (unfolding_at (us ++ u ∷ [])) (last.0 ∙ sym can.long) ∙ unfolding_at-seam us u [])) (subst (λ (x : Module). CanRename x u) last.1 one)
@@ -208,8 +198,8 @@ all_renamed : (us : List Unfolding) (before modules : List Module) → EachRenam
 all_renamed us before [] can bodies calls = subst (λ (ms : List Module). EachRenames us ms) (sym (append-nil before)) can
 all_renamed us before (m ∷ modules) can bodies calls =
     subst (λ (ms : List Module). EachRenames (from_earlier unfold_module (us ++ unfold_module us m ∷ []) modules) ms) (append_assoc before (m ∷ []) modules)
-      (all_renamed (us ++ unfold_module us m ∷ []) (before ++ m ∷ []) modules
-        (each_push us before can m (unfold_module us m) (module_renamed us before can m bodies.0 calls.0)) bodies.1 calls.1)
+    (all_renamed (us ++ unfold_module us m ∷ []) (before ++ m ∷ []) modules
+    (each_push us before can m (unfold_module us m) (module_renamed us before can m bodies.0 calls.0)) bodies.1 calls.1)
 
 -- RENAMING: each body of a deck
 pub unfoldings-rename : (modules : List Module) → IsDeck modules → EachRenames (unfoldings modules) modules

@@ -1,16 +1,14 @@
 -- Events and unfoldings one after another.
 use Rattle.std.proofs.Common.{◌≡◌, ℕ, zero, suc, ◌+◌, ◌<◌, List, [], ◌∷◌, ◌++◌, length, refl, sym, ap, ◌∙◌, append_assoc, append-nil, length-append, arith}
-use Rattle.std.specs.Prelude.{replicate, flat_map}
 use Rattle.sc_base.specs.declared.names.Class.{Class}
 use Rattle.sc_base.specs.declared.names.Class.TheVariants.{Q, C}
 use Rattle.sc_gate.specs.declared.gate.Wire.{Wire}
 use Rattle.sc_gate.specs.declared.gate.Gate.{Gate}
 use Rattle.sc_deck.specs.declared.item.Item.{Item}
-use Rattle.sc_deck.specs.declared.item.Item.TheVariants as item
-use Rattle.sc_deck.specs.Events.{Event, Enter, Fresh, Apply, Return, gates_in, after_events, fresh_in, rename_gate}
+use Rattle.sc_deck.specs.Events.{Event, Enter, Fresh, Apply, Return, gates_in, after_events, fresh_in}
 use Rattle.sc_deck.specs.Modules.{Module, from_earlier}
 use Rattle.sc_deck.specs.Numbers.{Numbers, number_of, with_more, no_wires}
-use Rattle.sc_deck.specs.Unfolding.{Unfolding, unfolding_at, unfold_item, unfold_items, unfold_module, unfoldings, unfold_on, made_by, places_after, repeated, placed}
+use Rattle.sc_deck.specs.Unfolding.{Unfolding, unfolding_at, unfold_item, unfold_items, unfold_module, unfoldings, unfold_on, made_by, places_after, repeated}
 use Rattle.sc_deck.proofs.EarlierLemmas.{from_earlier-push}
 
 pub gates_in-append : (xs ys : List Event) → gates_in (xs ++ ys) ≡ gates_in xs ++ gates_in ys
@@ -29,8 +27,8 @@ after_events-append next (Return key ∷ xs) ys = after_events-append next xs ys
 
 -- ITEMS IN SEQUENCE: the events of two lists are those of the first and then those of the second, from where the first ends
 pub unfold_items-append : (us : List Unfolding) (items more : List Item) (places : List Wire) (next : Numbers) →
-  unfold_items us (items ++ more) places next
-  ≡ unfold_items us items places next ++ unfold_items us more (places_after us items places next) (after_events next (unfold_items us items places next))
+    unfold_items us (items ++ more) places next
+    ≡ unfold_items us items places next ++ unfold_items us more (places_after us items places next) (after_events next (unfold_items us items places next))
 unfold_items-append us [] more places next = refl
 unfold_items-append us (i ∷ items) more places next =
     let events : List Event = unfold_item us i places next in
@@ -42,7 +40,7 @@ unfold_items-append us (i ∷ items) more places next =
     ∙ sym (append_assoc events rest (unfold_items us more (places_after us items places' next') (after_events next (events ++ rest))))
 
 pub places_after-append : (us : List Unfolding) (items more : List Item) (places : List Wire) (next : Numbers) →
-  places_after us (items ++ more) places next ≡ places_after us more (places_after us items places next) (after_events next (unfold_items us items places next))
+    places_after us (items ++ more) places next ≡ places_after us more (places_after us items places next) (after_events next (unfold_items us items places next))
 places_after-append us [] more places next = refl
 places_after-append us (i ∷ items) more places next =
     let events : List Event = unfold_item us i places next in
@@ -93,3 +91,23 @@ unfold_on-last modules m =
     (λ k wires next. unfolding_at (unfoldings-push modules m k) (length modules) wires next)
     ∙ (λ k wires next. unfolding_at (unfoldings modules ++ unfold_module (unfoldings modules) m ∷ []) (sym (length-unfoldings modules) k) wires next)
     ∙ unfolding_at-seam (unfoldings modules) (unfold_module (unfoldings modules) m) []
+
+-- from two beginnings the numbers after events stay as far apart
+apart : (a b : Numbers) (events : List Event) (class : Class) → number_of class (after_events a events) + number_of class b ≡ number_of class (after_events b events) + number_of class a
+apart a b [] class = omega arith
+apart a b (Enter key wires ∷ events) class = apart a b events class
+apart a b (Fresh other n ∷ events) class = let h = apart (with_more other n a) (with_more other n b) events class in by other class h
+  where
+    by : (other class : Class) → number_of class (after_events (with_more other n a) events) + number_of class (with_more other n b) ≡ number_of class (after_events (with_more other n b) events) + number_of class (with_more other n a) →
+        number_of class (after_events (with_more other n a) events) + number_of class b ≡ number_of class (after_events (with_more other n b) events) + number_of class a
+    by Q Q h = omega arith
+    by C C h = omega arith
+    by Q C h = h
+    by C Q h = h
+apart a b (Apply gate ∷ events) class = apart a b events class
+apart a b (Return key ∷ events) class = apart a b events class
+
+-- THE FRESH SUMS ADD: the next numbers after events are those before and the fresh wires of the events
+pub after_events-adds : (next : Numbers) (events : List Event) (class : Class) → number_of class (after_events next events) ≡ number_of class next + number_of class (fresh_in events)
+after_events-adds next events Q = let h = apart next no_wires events Q in omega arith
+after_events-adds next events C = let h = apart next no_wires events C in omega arith

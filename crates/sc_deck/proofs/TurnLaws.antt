@@ -1,20 +1,19 @@
 -- Items with turns unfold as the items that they stand for, and folding keeps the unfolding.
-use Rattle.std.proofs.Common.{◌≡◌, ℕ, zero, suc, ◌+◌, Bool, true, false, List, [], ◌∷◌, ◌++◌, map, replicate, refl, sym, ap, ◌∙◌, append_assoc, append-nil, arith}
+use Rattle.std.proofs.Common.{◌≡◌, ℕ, zero, suc, ◌+◌, Bool, true, false, List, [], ◌∷◌, ◌++◌, map, replicate, refl, sym, ap, ◌∙◌, append_assoc, append-nil}
 use Rattle.std.specs.Prelude.{flat_map, fold, if◌then◌else◌, slice_get, Option, Some, None}
 use Rattle.std.specs.Option.{option_map, option_map_or}
 use Rattle.std.proofs.lemmas.Option.{slice_get-map}
 use Rattle.std.proofs.lemmas.List.{replicate_more}
-use Rattle.std.proofs.lemmas.Grind.{flat_map-append}
 use Rattle.sc_gate.specs.declared.gate.Wire.{Wire}
 use Rattle.sc_gate.specs.declared.gate.Gate.{Gate}
 use Rattle.sc_deck.specs.declared.item.Item.{Item}
 use Rattle.sc_deck.specs.declared.item.Item.TheVariants as item
-use Rattle.sc_deck.specs.Events.{Event, Enter, Fresh, Apply, Return, after_events, rename_gate}
+use Rattle.sc_deck.specs.Events.{Event, Enter, Return, after_events}
 use Rattle.sc_deck.specs.Keys.{param_classes, params_of}
 use Rattle.sc_deck.specs.Modules.{Module, from_earlier}
 use Rattle.sc_deck.specs.Numbers.{Numbers, no_wires}
 use Rattle.sc_deck.specs.Turns.{written_out, same_gate, same_call, joined, with_folded, folded, folded_module, folded_modules}
-use Rattle.sc_deck.specs.Unfolding.{Unfolding, unfolding_at, unfold_item, unfold_items, unfold_module, unfoldings, unfold_on, expansion, numbered, made_by, places_after, repeated, placed}
+use Rattle.sc_deck.specs.Unfolding.{Unfolding, unfolding_at, unfold_item, unfold_items, unfold_module, unfoldings, unfold_on, expansion, numbered, made_by, places_after, repeated}
 use Rattle.sc_deck.proofs.GateTests.{same_gate-true, same_call-true}
 use Rattle.sc_deck.proofs.SequenceLaws.{unfold_items-append}
 
@@ -63,12 +62,12 @@ both_items : (i j : Item) → flat_map written_out (i ∷ j ∷ []) ≡ written_
 both_items i j = ap (λ (l : List Item). written_out i ++ l) (append-nil (written_out j))
 
 gate_or : (b : Bool) (g h : Gate) (n : ℕ) (i : Item) (turns : List Item) → written_out i ≡ turns → (b ≡ true → g ≡ h) → replicate n (item.Gate g) ≡ turns ++ item.Gate g ∷ [] →
-  flat_map written_out (if b then item.Gates g n ∷ [] else i ∷ item.Gate h ∷ []) ≡ turns ++ item.Gate h ∷ []
+    flat_map written_out (if b then item.Gates g n ∷ [] else i ∷ item.Gate h ∷ []) ≡ turns ++ item.Gate h ∷ []
 gate_or true g h n i turns is same more = append-nil (replicate n (item.Gate g)) ∙ more ∙ ap (λ (k : Gate). turns ++ item.Gate k ∷ []) (same refl)
 gate_or false g h n i turns is same more = both_items i (item.Gate h) ∙ ap (λ (l : List Item). l ++ item.Gate h ∷ []) is
 
 call_or : (b : Bool) (c d : ℕ) (ws vs : List Wire) (n : ℕ) (i : Item) (turns : List Item) → written_out i ≡ turns → (b ≡ true → (c ≡ d) × (ws ≡ vs)) → replicate n (item.Call c ws) ≡ turns ++ item.Call c ws ∷ [] →
-  flat_map written_out (if b then item.Calls c ws n ∷ [] else i ∷ item.Call d vs ∷ []) ≡ turns ++ item.Call d vs ∷ []
+    flat_map written_out (if b then item.Calls c ws n ∷ [] else i ∷ item.Call d vs ∷ []) ≡ turns ++ item.Call d vs ∷ []
 call_or true c d ws vs n i turns is same more = append-nil (replicate n (item.Call c ws)) ∙ more ∙ (let e = same refl in λ k. turns ++ item.Call (e.0 k) (e.1 k) ∷ [])
 call_or false c d ws vs n i turns is same more = both_items i (item.Call d vs) ∙ ap (λ (l : List Item). l ++ item.Call d vs ∷ []) is
 
@@ -147,6 +146,6 @@ expansion-folded modules i =
     ∙ ap (λ (us : List Unfolding). option_map_or (λ (m : Module). unfolding_at us i (numbered (param_classes m.key) no_wires) (params_of m.key)) (slice_get modules i) []) (unfoldings-folded modules)
   where
     through : (o : Option Module) → option_map_or (λ (m : Module). unfold_on (folded_modules modules) i (numbered (param_classes m.key) no_wires) (params_of m.key)) (option_map folded_module o) []
-      ≡ option_map_or (λ (m : Module). unfold_on (folded_modules modules) i (numbered (param_classes m.key) no_wires) (params_of m.key)) o []
+        ≡ option_map_or (λ (m : Module). unfold_on (folded_modules modules) i (numbered (param_classes m.key) no_wires) (params_of m.key)) o []
     through None = refl
     through (Some m) = refl

@@ -1,5 +1,5 @@
 -- Hierarchical texts of keys with items.
-use Rattle.std.specs.Prelude.{◌≡◌, ℕ, ◌+◌, ◌≤◌, ◌<◌, ◌^◌, ◌⊎◌, ℤ, Bool, true, false, ◌||◌, ◌==◌, Option, Some, None, List, [], ◌∷◌, ◌++◌, map, flat_map, length, codes, decimal, unsigned_abs, FitsSigned, if◌then◌else◌, All, AllPairs, ◌≢◌}
+use Rattle.std.specs.Prelude.{◌≡◌, ℕ, ◌+◌, ◌≤◌, ◌<◌, ◌^◌, ◌⊎◌, ℤ, Bool, true, false, ◌||◌, ◌==◌, List, [], ◌∷◌, ◌++◌, map, flat_map, length, codes, decimal, unsigned_abs, FitsSigned, if◌then◌else◌, All, AllPairs, ◌≢◌}
 use Rattle.std.specs.List.{list_any, join_with_byte, AllPass}
 use Rattle.std.specs.Char.{is_ascii_alphabetic, is_ascii_alphanumeric}
 use Rattle.std.specs.Fmt.{sign_text}
@@ -8,8 +8,6 @@ use Rattle.sc_base.specs.declared.names.Class.{Class}
 use Rattle.sc_base.specs.declared.names.Class.TheVariants.{Q, C}
 use Rattle.sc_base.specs.Decimals.{fixed_text}
 use Rattle.sc_gate.specs.declared.gate.Wire.{Wire}
-use Rattle.sc_gate.specs.declared.gate.Kind.{Kind}
-use Rattle.sc_gate.specs.declared.gate.Gate.{Gate}
 use Rattle.sc_gate.specs.Lines.{class_letter, wire_text, gate_line, number_line}
 use Rattle.sc_deck.specs.declared.item.Item.{Item}
 use Rattle.sc_deck.specs.declared.item.Item.TheVariants as item
@@ -121,7 +119,7 @@ pub record IsWithinLimits (modules : List Module) : Type 0 where
   pub narrow : All (λ m. both (wires_of (body_of m)) ≤ 65536) modules
   -- a repeated item counts once
   pub short : All (λ m. length m.items ≤ 1048576) modules
-  pub flat : All (λ height. height ≤ 256) (heights_of modules)
+  pub shallow : All (λ height. height ≤ 256) (heights_of modules)
 
 -- THE GRAMMAR: the text of modules that keep the rules, in version 2, or in version 1 where no item has turns.
 -- A text of version 2 may have no item with turns, and runs of equal items may stand unfolded.
@@ -133,5 +131,5 @@ pub record IsHier (text : List ℕ) (modules : List Module) : Type 0 where
 pub record IsSound (modules : List Module) : Type 0 where
   pub whole : IsWhole modules
   pub names : All (λ m. IsModuleName m.key.name) modules
-  pub flat : All (λ height. height ≤ 256) (heights_of modules)
+  pub shallow : All (λ height. height ≤ 256) (heights_of modules)
   pub short : All (λ m. length m.items ≤ 1048576) modules

@@ -1,7 +1,9 @@
 pub mod Bodies
+pub mod CallChains
 pub mod Decks
 pub mod Entries
 pub mod Events
+pub mod Examples
 pub mod Hierarchical
 pub mod Items
 pub mod KeyLaws

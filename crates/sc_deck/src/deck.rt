@@ -5,6 +5,7 @@ ghost use Rattle.std.specs.List.{list_any};
 ghost use Rattle.sc_gate.specs.declared.gate.Wire.{Wire};
 ghost use Rattle.sc_base.specs.declared.names.Class.{Class};
 ghost use Rattle.sc_gate.specs.Gates.{class_of};
+ghost use Rattle.sc_deck.specs.CallChains.{IsReach};
 ghost use Rattle.sc_deck.specs.Decks.{CallFits, CallsFit, IsNewKey, IsDeck, IsWhole};
 ghost use Rattle.sc_deck.specs.Items.{callees_of};
 ghost use Rattle.sc_deck.specs.Keys.{arg_classes, params_of, HasLengths, main_key};
@@ -141,7 +142,8 @@ impl Deck {
 
     /// The greatest sum of wires along a chain of calls from the last body; 0 where there is no body. Takes no memory.
     pub fn reach(&self) -> u64
-        ensures { result ≡ slice_index (reaches_of self.now) (length self.now - 1) }
+        ensures value { result ≡ slice_index (reaches_of self.now) (length self.now - 1) }
+        ensures chains { IsReach self.now result }
     {
         match self.entries.last() {
             Some((_, entry)) => entry.reach,

@@ -15,7 +15,7 @@ pub fn items_in_sequence()
     ensures { (us : List Unfolding) (items more : List Item) (places : List Wire) (next : Numbers) →
         unfold_items us (items ++ more) places next
         ≡ unfold_items us items places next
-          ++ unfold_items us more (places_after us items places next) (after_events next (unfold_items us items places next)) }
+        ++ unfold_items us more (places_after us items places next) (after_events next (unfold_items us items places next)) }
 {}
 
 /// A module appended to a list leaves the earlier unfoldings, and is unfolded by them.

@@ -14,3 +14,6 @@ pub use deck::Deck;
 pub use item::{Item, Operands};
 pub use key::{Arg, Key};
 pub use repeat::first_repeat;
+
+#[cfg(test)]
+mod tests;

@@ -9,7 +9,7 @@ use Rattle.sc_base.specs.declared.Place.{Place}
 use Rattle.sc_syntax.specs.declared.Expr.{Expr}
 use Rattle.sc_syntax.specs.declared.Link.{Link}
 use Rattle.sc_syntax.specs.declared.NumSort.{NumSort}
-use Rattle.sc_syntax.specs.declared.Node.{Node, Chain, Row_of-Link, end_of-Link, more_of-Link, items-the_row-Link}
+use Rattle.sc_syntax.specs.declared.Node.{Chain, Row_of-Link, end_of-Link, more_of-Link, items-the_row-Link}
 use Rattle.sc_syntax.specs.Kind as kind
 use Rattle.sc_syntax.specs.Kind.{Kinds, kind_of_expr, kind_of_node, kind_of_row, kind_of_operation}
 use Rattle.sc_syntax.proofs.Rows.{over_links}

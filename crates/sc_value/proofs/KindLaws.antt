@@ -3,14 +3,12 @@ use Rattle.std.proofs.Common.{◌≡◌, refl, sym, ap, subst, ◌∙◌, ℕ, z
 use Rattle.std.specs.Prelude.{Option, Result, ◌^◌, ℤ, pos, negsuc, ◌+ℤ◌, ◌-ℤ◌, ◌*ℤ◌, neg_ℤ, int_div, int_rem, nat_lt, if◌then◌else◌}
 use Rattle.std.specs.Option.{option_map, unwrap_or}
 use Rattle.sc_base.specs.declared.Place.{Place}
-use Rattle.sc_base.specs.declared.Fixed.{Fixed}
 use Rattle.sc_syntax.specs.declared.BinOp.{BinOp}
 use Rattle.sc_syntax.specs.declared.BinOp.TheVariants as op
 use Rattle.sc_syntax.specs.declared.UnOp.{UnOp}
 use Rattle.sc_syntax.specs.declared.UnOp.TheVariants as un
 use Rattle.sc_syntax.specs.declared.NumSort.{NumSort}
 use Rattle.sc_syntax.specs.declared.NumSort.TheVariants as num
-use Rattle.sc_syntax.specs.declared.Kind.{Kind}
 use Rattle.sc_syntax.specs.declared.Kind.TheVariants.{Number}
 use Rattle.sc_syntax.specs.declared.Expr.{Expr}
 use Rattle.sc_syntax.specs.declared.Node.{Node, Int, Decimal, Name, Index', Paren', Unary', Chain', Pick', Row_of-Link, end_of-Link, more_of-Link}
@@ -20,7 +18,7 @@ use Rattle.sc_value.specs.declared.Value.{Value}
 use Rattle.sc_value.specs.declared.Value.TheVariants as v
 use Rattle.sc_value.specs.declared.EvalFault.{EvalFault}
 use Rattle.sc_value.specs.declared.EvalFault.TheVariants.{Overflow}
-use Rattle.sc_value.specs.Numbers.{◌>>=◌, fits, ranged, int, double, fixed, truth, divided, shifted, floor_div, unit, on_ints, on_doubles, widened, apply, is_true, to_double, beside, unary}
+use Rattle.sc_value.specs.Numbers.{◌>>=◌, ranged, int, double, divided, shifted, floor_div, unit, on_ints, on_doubles, widened, apply, is_true, to_double, beside, unary}
 use Rattle.sc_value.specs.Expressions.{Values, sort_of, kinds_of, step, value_of_node, value_of_row, value_of_expr}
 
 -- the value, if there is one, is of this kind
@@ -176,11 +174,11 @@ mutual
       leads (value_of_node values p1 n1) _ test.here sort (value_has values p1 n1 test.here test.first)
       (λ t _. tested sort (is_true t) _ _
       (leads (value_of_node values p2 n2) _ yes.here sort (value_has values p2 n2 yes.here yes.first)
-        (λ a same. subst (λ s. Has s (beside (kind_of_node kinds n3) p2 a)) (ap (λ s. wider s no.here) same ∙ some_same no.rest)
-          (subst (λ o. Has (wider (sort_of a) no.here) (beside o p2 a)) (sym no.first) (beside_has no.here p2 a))))
+      (λ a same. subst (λ s. Has s (beside (kind_of_node kinds n3) p2 a)) (ap (λ s. wider s no.here) same ∙ some_same no.rest)
+      (subst (λ o. Has (wider (sort_of a) no.here) (beside o p2 a)) (sym no.first) (beside_has no.here p2 a))))
       (leads (value_of_node values p3 n3) _ no.here sort (value_has values p3 n3 no.here no.first)
-        (λ a same. subst (λ s. Has s (beside (kind_of_node kinds n2) p3 a)) (ap (λ s. wider s yes.here) same ∙ wider_swaps no.here yes.here ∙ some_same no.rest)
-          (subst (λ o. Has (wider (sort_of a) yes.here) (beside o p3 a)) (sym yes.first) (beside_has yes.here p3 a)))))
+      (λ a same. subst (λ s. Has s (beside (kind_of_node kinds n2) p3 a)) (ap (λ s. wider s yes.here) same ∙ wider_swaps no.here yes.here ∙ some_same no.rest)
+      (subst (λ o. Has (wider (sort_of a) yes.here) (beside o p3 a)) (sym yes.first) (beside_has yes.here p3 a)))))
 
   pub row_has : {m : _} (values : Values) (row : Row_of-Link m) (a : Value) (sort : NumSort) → kind_of_row (kinds_of values) row (sort_of a) ≡ Some sort → Has sort (value_of_row values row a)
   row_has values end_of-Link a sort e = record { has = some_same e }

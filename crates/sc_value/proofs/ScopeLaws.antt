@@ -1,16 +1,16 @@
 -- What declaring, setting, entering and leaving do to the value and the kind of each name.
-use Rattle.std.proofs.Common.{◌≡◌, refl, sym, ap, ◌∙◌, ℕ, suc, Bool, true, false, cond, List, [], ◌∷◌, length, Some, None, IsSome}
+use Rattle.std.proofs.Common.{◌≡◌, refl, sym, ap, ◌∙◌, ℕ, suc, Bool, true, false, cond, List, [], ◌∷◌, length, ◌<◌, Some, None, IsSome, arith}
 use Rattle.std.proofs.lemmas.Map.Text.{is_eq-slice_cmp}
 use Rattle.std.specs.Prelude.{Option, is_some, if◌then◌else◌}
 use Rattle.std.specs.Option.{option_or, option_map}
-use Rattle.std.specs.Ordering.{nat_cmp, eq_by_cmp}
+use Rattle.std.specs.Ordering.{nat_cmp}
 use Rattle.std.specs.Cmp.Lexicographic.{slice_cmp, nat_list_cmp_total}
 use Rattle.std.proofs.lemmas.Slice.Eq.{bytes_eq-Decides}
 use Rattle.std.specs.FinMap.{get, insert, empty, get-insert, get-empty}
 use Rattle.std.specs.Str.{bytes_eq}
 use Rattle.sc_syntax.specs.declared.Kind.TheVariants.{Number}
 use Rattle.sc_value.specs.declared.Value.{Value}
-use Rattle.sc_value.specs.Expressions.{Values, sort_of, kinds_of}
+use Rattle.sc_value.specs.Expressions.{sort_of, kinds_of}
 use Rattle.sc_value.specs.Scopes.{Scope, Scopes, constant, declared_value, value_of_name, with_declared, with_set, HasKind}
 
 get_inserted : (scope : Scope) (name q : List ℕ) (value : Value)
@@ -30,7 +30,7 @@ value_of_entered scopes q =
 -- a declared name has its value, and every other name what it had
 pub value_of_declared : (scope : Scope) (outer : Scopes) (name q : List ℕ) (value : Value)
     → value_of_name (with_declared (scope ∷ outer) name value) q
-      ≡ (if bytes_eq q name then Some value else value_of_name (scope ∷ outer) q)
+    ≡ (if bytes_eq q name then Some value else value_of_name (scope ∷ outer) q)
 value_of_declared scope outer name q value =
     ap (λ here. option_or (option_or here (declared_value outer q)) (constant q)) (get_inserted scope name q value)
     ∙ ap (λ o. option_or o (constant q)) (or_cond (bytes_eq q name) value (get scope q) (declared_value outer q))
@@ -47,7 +47,7 @@ set_case : (found : Option Value) (scope : Scope) (outer : Scopes) (name q : Lis
     → (IsSome (declared_value outer name) → declared_value (with_set outer name value) q ≡ cond (bytes_eq q name) (Some value) (declared_value outer q))
     → IsSome (option_or found (declared_value outer name))
     → declared_value (cond (is_some found) (insert scope name value ∷ outer) (scope ∷ with_set outer name value)) q
-      ≡ cond (bytes_eq q name) (Some value) (option_or (get scope q) (declared_value outer q))
+    ≡ cond (bytes_eq q name) (Some value) (option_or (get scope q) (declared_value outer q))
 set_case (Some v) scope outer name q value is outside there =
     ap (λ here. option_or here (declared_value outer q)) (get_inserted scope name q value)
     ∙ or_cond (bytes_eq q name) value (get scope q) (declared_value outer q)
@@ -106,3 +106,12 @@ length_of_set (scope ∷ outer) name value = either (is_some (get scope name)) (
 pub length_of_declared : (scopes : Scopes) (name : List ℕ) (value : Value) → length (with_declared scopes name value) ≡ length scopes
 length_of_declared [] name value = refl
 length_of_declared (scope ∷ outer) name value = refl
+
+-- a declared name has the kind of its value
+pub declared_kind : (scopes : Scopes) (name : List ℕ) (value other : Value) → 0 < length scopes → sort_of value ≡ sort_of other
+    → HasKind (with_declared scopes name value) name other
+declared_kind [] name value other some same = absurd (omega arith)
+declared_kind (scope ∷ outer) name value other some same =
+    ap (λ here. option_map sort_of (option_or here (declared_value outer name)))
+    (get_inserted scope name name value ∙ ap (λ b. cond b (Some value) (get scope name)) ((bytes_eq-Decides name name).1 refl))
+    ∙ ap Some same

@@ -1,11 +1,11 @@
 -- Scopes as they are kept: the outermost apart, and the entered ones with the innermost last.
-use Rattle.std.proofs.Common.{◌≡◌, ◌≢◌, refl, sym, ap, subst, ◌∙◌, ℕ, suc, ◌+◌, ◌-◌, ◌<◌, ◌≤◌, List, [], ◌∷◌, ◌++◌, length, get_or, take, drop, set, arith, add-one, append_assoc, Bool, true, false, cond, IsSome}
+use Rattle.std.proofs.Common.{◌≡◌, refl, sym, ap, ◌∙◌, ℕ, ◌+◌, ◌<◌, List, [], ◌∷◌, ◌++◌, length, get_or, take, drop, set, arith, add-one, append_assoc, true, cond, IsSome}
 use Rattle.std.proofs.lemmas.List.{reverse-append, take-append-drop, take-set, drop-set, take_more, drop_all}
 use Rattle.std.proofs.Math.Seq.{drop-cons}
 use mathlib.Core.List.{reverse}
 use Rattle.std.specs.Prelude.{Option, Some, None, is_some}
 use Rattle.std.specs.Option.{option_or, option_map}
-use Rattle.std.specs.FinMap.{get, insert, contains_key}
+use Rattle.std.specs.FinMap.{get, insert}
 use Rattle.sc_value.specs.declared.Value.{Value}
 use Rattle.sc_value.specs.Expressions.{sort_of}
 use Rattle.sc_value.specs.Scopes.{Scope, Scopes, declared_value, with_declared, with_set, HasKind}

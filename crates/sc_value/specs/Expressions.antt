@@ -1,5 +1,5 @@
 -- The value of an expression, or its first fault in the order in which operands are evaluated.
-use Rattle.std.specs.Prelude.{ℕ, if◌then◌else◌, true, false, pos, List, [], ◌∷◌, Option, Some, None, Result, Ok, Err}
+use Rattle.std.specs.Prelude.{ℕ, if◌then◌else◌, true, false, pos, List, Option, Result, Ok}
 use Rattle.std.specs.Option.{option_map, unwrap_or}
 use Rattle.sc_base.specs.declared.Place.{Place}
 use Rattle.sc_syntax.specs.declared.BinOp.{BinOp}
@@ -8,7 +8,6 @@ use Rattle.sc_syntax.specs.declared.NumSort.{NumSort}
 use Rattle.sc_syntax.specs.declared.NumSort.TheVariants as num
 use Rattle.sc_syntax.specs.declared.Kind.TheVariants.{Number}
 use Rattle.sc_syntax.specs.declared.Expr.{Expr}
-use Rattle.sc_syntax.specs.declared.Link.{Link}
 use Rattle.sc_syntax.specs.declared.Node.{Node, Int, Decimal, Name, Index', Paren', Unary', Chain', Pick', Row_of-Link, end_of-Link, more_of-Link}
 use Rattle.sc_syntax.specs.Kind.{Kinds, kind_of_node}
 use Rattle.sc_value.specs.declared.Value.{Value}

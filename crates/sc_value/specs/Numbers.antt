@@ -1,7 +1,6 @@
 -- Operations on numbers: computed without a bound, and followed by the range test.
-use Rattle.std.specs.Prelude.{ℕ, zero, ◌*◌, ◌/◌, ◌^◌, Bool, true, false, not, ◌&&◌, nat_lt, if◌then◌else◌, Option, Some, ℤ, pos, negsuc, ◌+ℤ◌, ◌-ℤ◌, ◌*ℤ◌, neg_ℤ, int_lt, int_div, int_rem, Result, Ok, Err}
+use Rattle.std.specs.Prelude.{ℕ, zero, ◌/◌, ◌^◌, Bool, not, ◌&&◌, nat_lt, if◌then◌else◌, Option, Some, ℤ, pos, negsuc, ◌+ℤ◌, ◌-ℤ◌, ◌*ℤ◌, neg_ℤ, int_lt, int_div, int_rem, Result, Ok, Err}
 use Rattle.sc_base.specs.declared.Place.{Place}
-use Rattle.sc_base.specs.declared.Fixed.{Fixed}
 use Rattle.sc_syntax.specs.declared.BinOp.{BinOp}
 use Rattle.sc_syntax.specs.declared.BinOp.TheVariants as op
 use Rattle.sc_syntax.specs.declared.UnOp.{UnOp}

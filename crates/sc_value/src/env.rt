@@ -68,6 +68,8 @@ impl Env {
     pub fn declare(&mut self, name: &Text, value: Value) -> Result<(), Memory>
         ensures ok { OnOk result (self.new ≡ with_declared self.old name.now value) }
         ensures err { OnErr result (self.new ≡ self.old) }
+        // There is always a scope to declare it in.
+        ensures scoped { 0 < length self.old }
     {
         match self.entered.last_mut() {
             Some(scope) => scope.declare(self.alloc, name.as_bytes(), value),

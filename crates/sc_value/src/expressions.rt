@@ -57,7 +57,7 @@ pub fn eval(expr: &Expr, env: &Env) -> Result<Value, EvalFault>
     evaluate(expr, env)
 }
 
-fn evaluate(expr: &Expr, env: &Env) -> Result<Value, EvalFault>
+pub(crate) fn evaluate(expr: &Expr, env: &Env) -> Result<Value, EvalFault>
     ensures { result ≡ value_of_expr (value_of_name env.now) expr.now }
 {
     match &expr.node {

@@ -5,6 +5,8 @@ mod env;
 mod expressions;
 mod numbers;
 mod scope;
+#[cfg(test)]
+mod tests;
 
 pub use env::Env;
 pub use expressions::eval;

@@ -16,5 +16,5 @@ returns-clause-kind c =
     let Q : Result Value EvalFault → Type 0 = λ r. IfOk r P in
     subst Q (sym c.evaluate.ensures)
     (IfOk-weaker (value_of_expr values c.args.expr.now) (λ v. sort_of v ≡ c.requires.typed.0) P
-      (λ v same. c.requires.typed.1 ∙ ap Some (sym same))
-      (value_of_kind values c.args.expr.now c.requires.typed.0 c.requires.typed.1))
+    (λ v same. c.requires.typed.1 ∙ ap Some (sym same))
+    (value_of_kind values c.args.expr.now c.requires.typed.0 c.requires.typed.1))

@@ -1,4 +1,4 @@
-use Rattle.std.proofs.Common.{◌≡◌, OnOk, ap, ◌∙◌}
+use Rattle.std.proofs.Common.{ap, ◌∙◌}
 use Rattle.std.specs.FinMap as map
 use Rattle.sc_value.proofs.EntryLemmas.{inserted_entries}
 use Rattle.sc_value.proofs.scope.Scope.declare.Goals as goal

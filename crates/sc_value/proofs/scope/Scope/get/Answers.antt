@@ -1,4 +1,4 @@
-use Rattle.std.proofs.Common.{◌≡◌, sym, ap, ◌∙◌}
+use Rattle.std.proofs.Common.{sym, ap, ◌∙◌}
 use Rattle.std.specs.FinMap as map
 use Rattle.sc_value.proofs.EntryLemmas.{get_entries}
 use Rattle.sc_value.proofs.scope.Scope.get.Goals as goal

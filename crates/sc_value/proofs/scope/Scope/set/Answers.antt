@@ -1,4 +1,4 @@
-use Rattle.std.proofs.Common.{◌≡◌, sym, ap, subst, ◌∙◌, IsSome}
+use Rattle.std.proofs.Common.{sym, ap, subst, ◌∙◌, IsSome}
 use Rattle.std.specs.Prelude.{Option, None}
 use Rattle.std.specs.Option.{option_copied_mut}
 use Rattle.std.specs.FinMap as map

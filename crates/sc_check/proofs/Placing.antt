@@ -1,0 +1,124 @@
+-- Where positions stand, as regions, steps and schedules are gone through.
+use Rattle.std.proofs.Common.{◌≡◌, ◌≢◌, ℕ, zero, suc, ◌+◌, ◌<◌, Bool, true, false, cond, List, [], ◌∷◌, ◌++◌, length, get_or, take, set, refl, sym, ap, ◌∙◌, arith, inl, inr, add-one, add-zero, zero-add, add-suc}
+use Rattle.std.specs.Prelude.{◌==◌}
+use Rattle.std.specs.List.{list_any, sum_by, count_by}
+use Rattle.std.proofs.lemmas.Bool.{false≢true, cases_Bool, eqb-true, eq-eqb}
+use Rattle.std.proofs.lemmas.List.{get_or-set_same, get_or-set_other}
+use Rattle.std.proofs.lemmas.List.{length-take}
+use Rattle.std.proofs.Math.Seq.{take-suc, take-append_seam}
+use Rattle.std.proofs.lemmas.List.Sums.{count_by_more_yes, count_by_more_no, sum_by_more, sum_by-append, sum_by-cons}
+use Rattle.sc_sched.specs.Legal.{Step, stands_in, placed, times_in, times_placed, step_of}
+use Rattle.sc_check.specs.Places.{marked, marked_times, standing, found_at}
+use Rattle.sc_check.specs.declared.places.Stands.{Stands}
+use Rattle.sc_check.specs.declared.places.Stands.TheVariants.{Nowhere, Once, Again}
+
+marked_times-add : (m : Stands) (s a b : ℕ) → marked_times m s (a + b) ≡ marked_times (marked_times m s a) s b
+marked_times-add m s a zero = rw add-zero refl
+marked_times-add m s a (suc b) = rw add-suc (ap (λ k. marked k s) (marked_times-add m s a b))
+
+-- the next position of a region
+pub mark_more : (places : List Stands) (step p : ℕ) (r old : Stands) (region : List ℕ) (i : ℕ) → i < length region → get_or region i 0 < length places →
+    r ≡ marked (get_or places (get_or region i 0) Nowhere) step →
+    get_or places p Nowhere ≡ marked_times old step (count_by (λ y. y == p) (take i region)) →
+    get_or (set places (get_or region i 0) r) p Nowhere ≡ marked_times old step (count_by (λ y. y == p) (take (i + 1) region))
+mark_more places step p r old region i l b e inv = elim (cases_Bool (get_or region i 0 == p)) [
+  | inl t ↦ (let same : get_or region i 0 ≡ p = eqb-true _ _ t in
+      let here : get_or (set places (get_or region i 0) r) (get_or region i 0) Nowhere ≡ r = get_or-set_same places (get_or region i 0) r Nowhere b in
+      let now : get_or places (get_or region i 0) Nowhere ≡ get_or places p Nowhere = ap (λ (q : ℕ). get_or places q Nowhere) same in
+      rw (count_by_more_yes (λ y. y == p) region i 0 l t, add-one)
+      (ap (λ (q : ℕ). get_or (set places (get_or region i 0) r) q Nowhere) (sym same) ∙ (here ∙ (e ∙ ap (λ (m : Stands). marked m step) (now ∙ inv)))))
+  | inr f ↦ (let other : p ≢ get_or region i 0 = λ q. false≢true (sym f ∙ eq-eqb _ _ (sym q)) in
+      rw (count_by_more_no (λ y. y == p) region i 0 l f) (get_or-set_other places (get_or region i 0) p r Nowhere other ∙ inv))
+]
+
+-- the next region of a step
+pub step_more : (places new : List Stands) (step p : ℕ) (old : Stands) (regions : List (List ℕ)) (region : List ℕ) (i : ℕ) → i < length regions →
+    region ≡ get_or regions i region →
+    get_or new p Nowhere ≡ marked_times (get_or places p Nowhere) step (count_by (λ y. y == p) region) →
+    get_or places p Nowhere ≡ marked_times old step (times_in p (take i regions)) →
+    get_or new p Nowhere ≡ marked_times old step (times_in p (take (i + 1) regions))
+step_more places new step p old regions region i l is e inv =
+    e ∙ (ap (λ (m : Stands). marked_times m step (count_by (λ y. y == p) region)) inv
+    ∙ (sym (marked_times-add old step (times_in p (take i regions)) (count_by (λ y. y == p) region))
+    ∙ ap (marked_times old step) (ap (λ (r : List ℕ). times_in p (take i regions) + count_by (λ y. y == p) r) is
+    ∙ sym (sum_by_more (λ region. count_by (λ y. y == p) region) regions i region l))))
+
+sums_some : {A : Type 0} (f : A → ℕ) (p : A → Bool) → ((x : A) → p x ≡ true → 0 < f x) → (xs : List A) → list_any p xs ≡ true → 0 < sum_by f xs
+sums_some f p g [] h = absurd (false≢true h)
+sums_some f p g (x ∷ xs) h = rw sum_by-cons (elim (cases_Bool (p x)) [ inl t ↦ (let a : 0 < f x = g x t in omega arith) | inr e ↦ (let a : 0 < sum_by f xs = sums_some f p g xs (rw e at h) in omega arith) ])
+
+sums_none : {A : Type 0} (f : A → ℕ) (p : A → Bool) → ((x : A) → p x ≡ false → f x ≡ 0) → (xs : List A) → list_any p xs ≡ false → sum_by f xs ≡ 0
+sums_none f p g [] h = refl
+sums_none f p g (x ∷ xs) h = rw sum_by-cons (elim (cases_Bool (p x)) [ inl t ↦ absurd (false≢true (sym (rw t at h))) | inr e ↦ (let a : sum_by f xs ≡ 0 = sums_none f p g xs (rw e at h) in let b : f x ≡ 0 = g x e in omega arith) ])
+
+counts_some : {A : Type 0} (p : A → Bool) (xs : List A) → list_any p xs ≡ true → 0 < count_by p xs
+counts_some p xs h = sums_some (λ x. cond (p x) 1 0) p (λ x e. rw e (omega arith)) xs h
+
+counts_none : {A : Type 0} (p : A → Bool) (xs : List A) → list_any p xs ≡ false → count_by p xs ≡ 0
+counts_none p xs h = sums_none (λ x. cond (p x) 1 0) p (λ x e. rw e refl) xs h
+
+-- it stands where it is counted
+pub times_some : (step : Step) (x : ℕ) → stands_in step x ≡ true → 0 < times_in x step
+times_some step x h = sums_some (λ region. count_by (λ y. y == x) region) _ (λ region. counts_some (λ y. y == x) region) step h
+
+pub times_none : (step : Step) (x : ℕ) → stands_in step x ≡ false → times_in x step ≡ 0
+times_none step x h = sums_none (λ region. count_by (λ y. y == x) region) _ (λ region. counts_none (λ y. y == x) region) step h
+
+pub placed_some : (steps : List Step) (x : ℕ) → placed steps x ≡ true → 0 < times_placed steps x
+placed_some steps x h = sums_some (times_in x) (λ step. stands_in step x) (λ step. times_some step x) steps h
+
+pub placed_none : (steps : List Step) (x : ℕ) → placed steps x ≡ false → times_placed steps x ≡ 0
+placed_none steps x h = sums_none (times_in x) (λ step. stands_in step x) (λ step. times_none step x) steps h
+
+pub step_of_old : (xs ys : List Step) (x : ℕ) → placed xs x ≡ true → step_of (xs ++ ys) x ≡ step_of xs x
+step_of_old [] ys x h = absurd (false≢true h)
+step_of_old (s ∷ xs) ys x h = elim (cases_Bool (stands_in s x)) [ inl t ↦ rw t refl | inr f ↦ rw f (ap suc (step_of_old xs ys x (rw f at h))) ]
+
+pub step_of_new : (xs ys : List Step) (x : ℕ) → placed xs x ≡ false → step_of (xs ++ ys) x ≡ length xs + step_of ys x
+step_of_new [] ys x h = sym (zero-add _)
+step_of_new (s ∷ xs) ys x h = elim (cases_Bool (stands_in s x)) [ inl t ↦ absurd (false≢true (sym (rw t at h))) | inr f ↦ (let a : step_of (xs ++ ys) x ≡ length xs + step_of ys x = step_of_new xs ys x (rw f at h) in rw f (omega arith)) ]
+
+again_stays : (s n : ℕ) → marked_times Again s n ≡ Again
+again_stays s zero = refl
+again_stays s (suc n) = rw (again_stays s n) refl
+
+once_more : (t s n : ℕ) → marked_times (Once t) s (suc n) ≡ Again
+once_more t s zero = refl
+once_more t s (suc n) = rw (once_more t s n) refl
+
+twice_more : (s n : ℕ) → marked_times Nowhere s (suc (suc n)) ≡ Again
+twice_more s zero = refl
+twice_more s (suc n) = rw (twice_more s n) refl
+
+standing_more : (t n s s' here : ℕ) → (0 < t → s' ≡ s) → (t ≡ 0 → 0 < n → s' ≡ here) → standing (t + n) s' ≡ marked_times (standing t s) here n
+standing_more zero zero s s' here h g = refl
+standing_more zero (suc zero) s s' here h g = ap Once (g refl (omega arith))
+standing_more zero (suc (suc n)) s s' here h g = rw zero-add (sym (twice_more here n))
+standing_more (suc zero) zero s s' here h g = ap Once (h (omega arith))
+standing_more (suc zero) (suc n) s s' here h g = let e : suc zero + suc n ≡ suc (suc n) = omega arith in rw e (sym (once_more s here n))
+standing_more (suc (suc t)) n s s' here h g = let e : suc (suc t) + n ≡ suc (suc (t + n)) = omega arith in rw e (sym (again_stays here n))
+
+-- one step more
+pub found_more : (xs : List Step) (step : Step) (x : ℕ) → found_at (xs ++ step ∷ []) x ≡ marked_times (found_at xs x) (length xs) (times_in x step)
+found_more xs step x =
+    let e : times_placed (xs ++ step ∷ []) x ≡ times_placed xs x + times_in x step = sum_by-append (times_in x) xs (step ∷ []) ∙ ap (λ (n : ℕ). times_placed xs x + n) (zero-add (times_in x step)) in
+    rw e (standing_more (times_placed xs x) (times_in x step) (step_of xs x) (step_of (xs ++ step ∷ []) x) (length xs)
+    (λ some. step_of_old xs (step ∷ []) x (elim (cases_Bool (placed xs x)) [ inl t ↦ t | inr f ↦ absurd (omega (arith, some, placed_none xs x f)) ]))
+    (λ none some. step_of_new xs (step ∷ []) x (elim (cases_Bool (placed xs x)) [ inl t ↦ absurd (omega (arith, none, placed_some xs x t)) | inr f ↦ f ])
+    ∙ elim (cases_Bool (stands_in step x)) [ inl t ↦ rw t (omega arith) | inr f ↦ absurd (omega (arith, some, times_none step x f)) ]))
+
+-- what a slice of a whole list wrote back
+pub written_back : {A : Type 0} (ys zs : List A) (n : ℕ) → length ys ≡ n → take n (ys ++ zs) ≡ ys
+written_back ys zs n e = rw (← e) (take-append_seam ys zs)
+
+-- the next step of a schedule
+pub place_more : (places new : List Stands) (p i : ℕ) (steps : List Step) (step : Step) → i < length steps → step ≡ get_or steps i step →
+    get_or new p Nowhere ≡ marked_times (get_or places p Nowhere) i (times_in p step) →
+    get_or places p Nowhere ≡ found_at (take i steps) p →
+    get_or new p Nowhere ≡ found_at (take (i + 1) steps) p
+place_more places new p i steps step l is e inv =
+    let so_far : length (take i steps) ≡ i = rw length-take (omega arith) in
+    let more : found_at (take i steps ++ step ∷ []) p ≡ marked_times (found_at (take i steps) p) i (times_in p step) =
+    found_more (take i steps) step p ∙ ap (λ (n : ℕ). marked_times (found_at (take i steps) p) n (times_in p step)) so_far in
+    let front : take (i + 1) steps ≡ take i steps ++ step ∷ [] = rw add-one (take-suc steps i step l ∙ ap (λ (s : Step). take i steps ++ s ∷ []) (sym is)) in
+    e ∙ (ap (λ (m : Stands). marked_times m i (times_in p step)) inv ∙ (sym more ∙ ap (λ (s : List Step). found_at s p) (sym front)))

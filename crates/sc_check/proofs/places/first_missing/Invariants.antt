@@ -1,0 +1,7 @@
+use Rattle.std.proofs.Common.{◌≡◌, ℕ, ◌<◌, false, slice_index_or}
+use Rattle.sc_check.specs.Places.{is_nowhere}
+use Rattle.sc_check.specs.declared.places.Stands.TheVariants.{Nowhere}
+use Rattle.sc_check.proofs.places.first_missing.Given as goal
+
+abbrev pub invariant-loop-x : goal.invariant-loop-x
+invariant-loop-x l = (k : ℕ) → k < l.x → is_nowhere (slice_index_or l.places k Nowhere) ≡ false

@@ -1,0 +1,56 @@
+-- What a schedule has to know of the gates of a list, by their positions from 0.
+use Rattle.std.specs.Prelude.{ℕ, zero, suc, ◌==◌, ◌&&◌, Bool, false, if◌then◌else◌, ℤ, pos, Option, Some, None, List, map, slice_get, slice_index}
+use Rattle.std.specs.Ordering.{int_eq}
+use Rattle.sc_gate.specs.declared.gate.Wire.{Wire}
+use Rattle.sc_gate.specs.declared.gate.Kind.{Kind}
+use Rattle.sc_gate.specs.declared.gate.Kind.TheVariants.{Rx, Ry, Rz, PrepX, PrepZ}
+use Rattle.sc_gate.specs.declared.gate.Gate.{Gate}
+use Rattle.sc_gate.specs.Gates.{name_of, place_of, qubits_of, operands}
+use Rattle.sc_gate.specs.Wires.{member, shares as share}
+
+-- the number of qubits of a gate
+abbrev pub arity_of : Gate → ℕ
+arity_of gate = qubits_of (name_of gate.kind)
+
+-- the number of qubits of the gate at a position; 0 past the end
+abbrev pub arity_at : List Gate → ℕ → ℕ
+arity_at gates x = slice_index (map arity_of gates) x
+
+abbrev pub kind_of : Gate → Kind
+kind_of gate = gate.kind
+
+-- the kind of the gate at a position
+abbrev pub kind_at : List Gate → ℕ → Option Kind
+kind_at gates x = slice_get (map kind_of gates) x
+
+abbrev pub both_share : Option Gate → Option Gate → Bool
+both_share None h = false
+both_share (Some g) None = false
+both_share (Some g) (Some h) = share g h
+
+-- the gates at two positions share a wire
+abbrev pub shares : List Gate → ℕ → ℕ → Bool
+shares gates x y = both_share (slice_get gates x) (slice_get gates y)
+
+-- the angle of a rotation, 0 or 1 for the start value of a preparation, and 0 for every other kind
+abbrev pub value_of : Kind → ℤ
+value_of (Rx angle) = angle.0
+value_of (Ry angle) = angle.0
+value_of (Rz angle) = angle.0
+value_of (PrepX start) = pos (if start then 1 else 0)
+value_of (PrepZ start) = pos (if start then 1 else 0)
+value_of _ = pos 0
+
+-- two kinds have the same name and the same value
+abbrev pub same_kind : Kind → Kind → Bool
+same_kind a b = (place_of (name_of a) == place_of (name_of b)) && int_eq (value_of a) (value_of b)
+
+-- the gate has the wire
+abbrev pub has_wire : Option Gate → Wire → Bool
+has_wire None w = false
+has_wire (Some gate) w = member w (operands gate)
+
+-- the last gate before position n that has the wire
+abbrev pub last_on : List Gate → Wire → ℕ → Option ℕ
+last_on gates w zero = None
+last_on gates w (suc n) = if has_wire (slice_get gates n) w then Some n else last_on gates w n

@@ -1,0 +1,13 @@
+pub mod Gates
+pub mod Legal
+pub mod Text
+pub mod WireTables
+pub mod Step
+pub mod Schedule
+pub mod Ranks
+pub mod PrioritySchedules
+pub mod Taken
+pub mod Laws
+pub mod Layout
+pub mod Rounds
+pub mod Board
