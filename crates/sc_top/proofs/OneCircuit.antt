@@ -3,6 +3,7 @@ use Rattle.std.proofs.Common.{◌≡◌, ℕ, Bool, List, [], ◌∷◌, ◌++�
 use Rattle.std.specs.List.{flat_map}
 use Rattle.std.specs.Prelude.{option_and_then}
 use Rattle.sc_syntax.proofs.Once.{once}
+use Rattle.sc_syntax.specs.Directives.{no_names}
 use Rattle.sc_syntax.specs.declared.LexFault.{LexFault}
 use Rattle.sc_syntax.specs.declared.Token.{Token}
 use Rattle.sc_syntax.specs.declared.TokenSort.{TokenSort}
@@ -35,15 +36,15 @@ body_once [] returns lexemes from a b reads allowed body =
 body_once (p ∷ ps) returns lexemes from a b reads allowed body =
     let begins = reads ∙ append_assoc (part_lexemes p) (flat_map part_lexemes ps) (ending returns) in
     elim (after from p) as (λ made. after from p ≡ made → option_and_then (λ next. after_all next ps) made ≡ Some a → a ≡ b) [
-      None ↦ λ makes so. absurd (let impossible : None ≡ Some a = so in cc)
-    | Some now ↦ λ makes so.
-        body_once ps returns (flat_map part_lexemes ps ++ ending returns) now a b refl so (body_less lexemes (flat_map part_lexemes ps ++ ending returns) p begins makes body)
+      | None ↦ λ makes so. absurd (let impossible : None ≡ Some a = so in cc)
+      | Some now ↦ λ makes so.
+          body_once ps returns (flat_map part_lexemes ps ++ ending returns) now a b refl so (body_less lexemes (flat_map part_lexemes ps ++ ending returns) p begins makes body)
     ] refl allowed
 
 -- a source of the first form makes one thing
 pub one_circuit : (source : List ℕ) (a b : Made) → IsFirstSource source a → IsFirstSource source b → a ≡ b
 one_circuit source a b first second =
-    let same = same_tokens (once [] [] source _ _ second.lexed first.lexed) in
+    let same = same_tokens (once source [] no_names [] source _ _ second.lexed first.lexed) in
     let form = subst (λ tokens. IsFirstForm source tokens b) same second.form in
     let rest = flat_map part_lexemes first.form.parts ++ ending first.form.returns in
     body_once first.form.parts first.form.returns rest nothing_made a b refl first.form.allowed (first_body source first.tokens rest b first.form.reads form)

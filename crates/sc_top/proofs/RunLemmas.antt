@@ -1,33 +1,89 @@
--- When a request over a source of the first form is refused.
-use Rattle.std.proofs.Common.{◌≡◌, ℕ, ◌≤◌, length, List, Option, Some, refl, sym, ◌∙◌, subst, arith}
+-- Why a request is refused.
+use Rattle.std.proofs.Common.{◌≡◌, ℕ, ◌≤◌, ◌≢◌, length, List, [], Option, Some, Result, Ok, Err, None, refl, ap, sym, ◌∙◌, subst, arith}
 use Rattle.sc_base.specs.Causes.{Rose, Stood}
-use Rattle.sc_top.specs.Answers.{most_bytes, IsFirstSource, IsTooLarge, IsUnbuilt}
-use Rattle.sc_top.specs.Fault.{status_of}
-use Rattle.sc_top.specs.First.{Made}
+use Rattle.sc_syntax.proofs.Once.{once}
+use Rattle.sc_syntax.specs.Directives.{no_names}
+use Rattle.sc_syntax.specs.Lexing.{IsLexed, HasFault}
+use Rattle.sc_syntax.specs.declared.Token.{Token}
+use Rattle.sc_syntax.specs.declared.LexFault.{LexFault}
+use Rattle.sc_syntax.specs.declared.LexFault.TheVariants as lexing
+use Rattle.sc_top.specs.Answers.{request, Asks, most_bytes, IsFirstSource, IsTooLarge, IsMistaken, IsUnbuilt, Cause}
+use Rattle.sc_top.specs.Fault.{status_of, token_fault}
+use Rattle.sc_top.specs.First.{Made, IsFirstForm}
 use Rattle.sc_top.specs.declared.fault.Fault.{Fault}
-use Rattle.sc_top.specs.declared.fault.Fault.TheVariants.{Usage, ReadFault, SourceTooLarge, Unbuilt, Memory, WriteFault}
+use Rattle.sc_top.specs.declared.fault.Fault.TheVariants.{Usage, ReadFault, SourceTooLarge, Tokens, Unbuilt, Memory, WriteFault}
 use Rattle.sc_top.specs.declared.status.Status.TheVariants as status
+
+-- a fault of the tokens is why the request is refused
+pub lexing_cause : (fault : LexFault) (source : List ℕ) → length source ≤ most_bytes → (fault ≢ lexing.Memory → HasFault source fault) →
+    Cause ⊥ (λ (Says : List ℕ → Type 0). Says source) ⊥ ⊥ (token_fault fault)
+lexing_cause (lexing.BadByte place) source within has = record { within = within; mistake = lexing.BadByte place; has = has (λ is. cc); is = refl }
+lexing_cause (lexing.OpenComment place) source within has = record { within = within; mistake = lexing.OpenComment place; has = has (λ is. cc); is = refl }
+lexing_cause (lexing.BadNumber place) source within has = record { within = within; mistake = lexing.BadNumber place; has = has (λ is. cc); is = refl }
+lexing_cause (lexing.BadDefine place) source within has = record { within = within; mistake = lexing.BadDefine place; has = has (λ is. cc); is = refl }
+lexing_cause (lexing.TooManyTokens place) source within has = record { within = within; mistake = lexing.TooManyTokens place; has = has (λ is. cc); is = refl }
+lexing_cause lexing.Memory source within has = tt
+
+asks : {words : List (List ℕ)} {held : List ℕ → Option (List ℕ)} {told : Type 0} {name file : List ℕ} {Says : List ℕ → Type 0} → request words ≡ Some file → name ≡ file →
+    (told → (text : List ℕ) × (held name ≡ Some text) × Says text) → told → Asks held words Says
+asks {held = held} {file = file} asked same says told = record {
+  name = file;
+  text = (says told).0;
+  asked = asked;
+  holds = ap held (sym same) ∙ (says told).1;
+  says = (says told).2;
+}
+
+-- the cause of a fault of the file that the words ask for is the cause of the request's
+pub cause_asked : (words : List (List ℕ)) (held : List ℕ → Option (List ℕ)) (told : Type 0) (name file : List ℕ) (R S : Type 0) (fault : Fault) → request words ≡ Some file → name ≡ file →
+    Cause ⊥ (λ (Says : List ℕ → Type 0). told → (text : List ℕ) × (held name ≡ Some text) × Says text) R S fault →
+    Cause (request words ≡ None) (λ (Says : List ℕ → Type 0). told → Asks held words Says) R S fault
+cause_asked words held told name file R S Usage asked same cause = absurd cause
+cause_asked words held told name file R S ReadFault asked same cause = cause
+cause_asked words held told name file R S SourceTooLarge asked same cause = asks asked same cause
+cause_asked words held told name file R S (Tokens fault place) asked same cause = asks asked same cause
+cause_asked words held told name file R S Unbuilt asked same cause = asks asked same cause
+cause_asked words held told name file R S Memory asked same cause = tt
+cause_asked words held told name file R S WriteFault asked same cause = cause
+
+-- where the shelf tells its texts
+pub cause_told : (told : Type 0) (held : Option (List ℕ)) (R S : Type 0) (fault : Fault) → told →
+    Cause ⊥ (λ (Says : List ℕ → Type 0). told → (text : List ℕ) × (held ≡ Some text) × Says text) R S fault →
+    Cause ⊥ (λ (Says : List ℕ → Type 0). (text : List ℕ) × (held ≡ Some text) × Says text) R S fault
+cause_told told held R S Usage here cause = cause
+cause_told told held R S ReadFault here cause = cause
+cause_told told held R S SourceTooLarge here cause = cause here
+cause_told told held R S (Tokens fault place) here cause = cause here
+cause_told told held R S Unbuilt here cause = cause here
+cause_told told held R S Memory here cause = cause
+cause_told told held R S WriteFault here cause = cause
 
 pub same_text : {a b : List ℕ} → Some a ≡ Some b → a ≡ b
 same_text {a} {b} is = cc
 
--- where no count rises, only memory can be wanting
-pub only_memory : (fault : Fault) (shelf_before shelf_now out_before out_now : ℕ) (held : Option (List ℕ)) (text : List ℕ) (made : Made) →
-    (fault ≡ Usage → ⊥) → (fault ≡ ReadFault → Rose shelf_before shelf_now) →
-    (fault ≡ SourceTooLarge → (other : List ℕ) × (held ≡ Some other) × IsTooLarge other) →
-    (fault ≡ Unbuilt → (other : List ℕ) × (held ≡ Some other) × IsUnbuilt other) →
-    (fault ≡ WriteFault → Rose out_before out_now) →
-    held ≡ Some text → length text ≤ most_bytes → IsFirstSource text made → Stood shelf_before shelf_now → Stood out_before out_now →
-    status_of fault ≡ status.Memory
-only_memory Usage a b p q held text made usage read large unbuilt write holds within first shelf out = absurd (usage refl)
-only_memory ReadFault a b p q held text made usage read large unbuilt write holds within first shelf out = absurd (let rose = read refl in omega arith)
-only_memory SourceTooLarge a b p q held text made usage read large unbuilt write holds within first shelf out =
-    let other = large refl in
-    let same = same_text (sym holds ∙ other.1) in
-    absurd (let past = subst IsTooLarge (sym same) other.2 in omega arith)
-only_memory Unbuilt a b p q held text made usage read large unbuilt write holds within first shelf out =
-    let other = unbuilt refl in
-    let same = same_text (sym holds ∙ other.1) in
-    absurd (let none = subst IsUnbuilt (sym same) other.2 in none.other made first)
-only_memory Memory a b p q held text made usage read large unbuilt write holds within first shelf out = refl
-only_memory WriteFault a b p q held text made usage read large unbuilt write holds within first shelf out = absurd (let rose = write refl in omega arith)
+abbrev outcome : List Token → Result (List Token) LexFault
+outcome tokens = Ok tokens
+
+same_tokens : {a b : List Token} → outcome a ≡ outcome b → a ≡ b
+same_tokens {a} {b} is = cc
+
+-- a source that has tokens has no fault of the tokens
+no_mistake : (text : List ℕ) (tokens : List Token) (fault : LexFault) → IsLexed text tokens → HasFault text fault → ⊥
+no_mistake text tokens fault lexed has = let impossible : outcome tokens ≡ Err fault = once text [] no_names [] text _ _ lexed has in cc
+
+-- a source of the first form is not refused: only memory can be wanting where no count rose
+pub only_memory : {R S : Type 0} {held : Option (List ℕ)} {text : List ℕ} {made : Made} → held ≡ Some text → length text ≤ most_bytes → IsFirstSource text made → (R → ⊥) → (S → ⊥) →
+    (fault : Fault) → Cause ⊥ (λ (Says : List ℕ → Type 0). (other : List ℕ) × (held ≡ Some other) × Says other) R S fault → status_of fault ≡ status.Memory
+only_memory holds within first read write Usage cause = absurd cause
+only_memory holds within first read write ReadFault cause = absurd (read cause)
+only_memory holds within first read write SourceTooLarge (other, is, large) =
+    absurd (let past = subst IsTooLarge (same_text (sym is ∙ holds)) large in omega arith)
+only_memory holds within first read write (Tokens fault place) (other, is, mistaken) =
+    let here = subst (IsMistaken (Tokens fault place)) (same_text (sym is ∙ holds)) mistaken in
+    absurd (no_mistake _ first.tokens here.mistake first.lexed here.has)
+only_memory {text = text} {made = made} holds within first read write Unbuilt (other, is, unbuilt) =
+    let here = subst IsUnbuilt (same_text (sym is ∙ holds)) unbuilt in
+    let same = same_tokens (once text [] no_names [] text _ _ first.lexed here.lexed) in
+    absurd (here.other made (subst (λ tokens. IsFirstForm text tokens made) same first.form))
+only_memory holds within first read write Memory cause = refl
+only_memory holds within first read write WriteFault cause = absurd (write cause)

@@ -155,8 +155,8 @@ pub fn run<F: Shelf, O: Sink, E: Sink>(
     ensures told { result ≢ Status.Done → (fault : AnyFault) × (result ≡ status_of fault) ×
         Tells E.tells E.bytes E.is_ended E.faults err.old err.new (fault_line fault) ×
         Cause (request (map rc_str_bytes words.now) ≡ None)
-            (λ Says. IsTrue (F.tells_held shelf.old) → Asks (F.held shelf.old) (map rc_str_bytes words.now) Says)
-            (Rose (F.faults shelf.old) (F.faults shelf.new)) (Rose (O.faults out.old) (O.faults out.new)) fault }
+        (λ Says. IsTrue (F.tells_held shelf.old) → Asks (F.held shelf.old) (map rc_str_bytes words.now) Says)
+        (Rose (F.faults shelf.old) (F.faults shelf.new)) (Rose (O.faults out.old) (O.faults out.new)) fault }
 
     // What the counts and the words say of an answer.
     ensures usage { (result ≡ Status.Usage) ↔ (request (map rc_str_bytes words.now) ≡ None) }

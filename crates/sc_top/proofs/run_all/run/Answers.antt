@@ -1,9 +1,29 @@
-use Rattle.std.proofs.Common.{◌≡◌, refl, ap, inr, sym, ◌∙◌}
-use Rattle.std.specs.Prelude.{None, Err}
+use Rattle.std.proofs.Common.{◌≡◌, List, ℕ, IsTrue, map, refl, ap, inr, sym, ◌∙◌, arith}
+use Rattle.std.specs.Prelude.{None}
+use Rattle.std.specs.Rc.{rc_str_bytes}
+use Rattle.sc_base.specs.Causes.{Rose}
 use Rattle.sc_top.specs.Fault.{status_of}
-use Rattle.sc_top.proofs.RunLemmas.{only_memory, same_text}
+use Rattle.sc_top.proofs.RunLemmas.{cause_asked, cause_told, only_memory, same_text}
 use Rattle.sc_top.proofs.run_all.run.Goals as goal
 use Rattle.sc_top.proofs.run_all.run.Goals.{in-Err-Usage, in-Err-Memory, in-Ok+in-Err}
+
+pub returns-clause-told : goal.returns-clause-told
+returns-clause-told g c = λ not_done. (
+  c.match-read_words.fault,
+  c.status.ensures,
+  rw (c.as_bytes-2.ensures, c.line.ensures) at c.tell.ensures.told,
+  elim c.match-read_words.branch [
+    | in-Err-Usage w ↦
+        let usage = rw w.in-Err-Usage.field-0-is at w.in-Err-Usage.ensures.usage in
+        rw w.fault-is (usage.0 refl)
+    | in-Err-Memory w ↦ rw w.fault-is tt
+    | in-Ok+in-Err w ↦
+        rw (w.fault-is, w.shelf-is, w.out-is)
+        (cause_asked (map rc_str_bytes c.args.words.now) (g.F.Shelf.held c.args.shelf.now) (IsTrue (g.F.Shelf.tells_held c.args.shelf.now)) w.as_bytes.result.now _
+        (Rose (g.F.Shelf.faults c.args.shelf.now) (g.F.Shelf.faults w.flat.new.shelf)) (Rose (g.O.Sink.faults c.args.out.now) (g.O.Sink.faults w.flat.new.out)) w.in-Err.fault
+        w.in-Ok.ensures.asked (w.as_bytes.ensures ∙ w.file.ensures) w.in-Err.ensures.cause)
+  ],
+)
 
 pub returns-clause-complete : goal.returns-clause-complete
 returns-clause-complete g c = λ name text made asked told holds within first shelf_stood out_stood.
@@ -14,9 +34,13 @@ returns-clause-complete g c = λ name text made asked told holds within first sh
       | in-Err-Memory w ↦ inr (c.status.ensures ∙ ap status_of w.fault-is)
       | in-Ok+in-Err w ↦
           let named = w.as_bytes.ensures ∙ w.file.ensures ∙ same_text (sym w.in-Ok.ensures.asked ∙ asked) in
-          let facts = w.in-Err.ensures in
-          inr (c.status.ensures ∙ ap status_of w.fault-is ∙ only_memory w.in-Err.fault _ _ _ _ _ text made
-          (λ is. facts.no_usage (ap Err is)) (λ is. facts.read (ap Err is)) (λ is. facts.too_large (ap Err is) told)
-          (λ is. facts.unbuilt (ap Err is) told) (λ is. facts.write (ap Err is))
-          (ap (g.F.Shelf.held c.args.shelf.now) named ∙ holds) within first (rw w.shelf-is at shelf_stood) (rw w.out-is at out_stood))
+          let shelf_still = rw w.shelf-is at shelf_stood in
+          let out_still = rw w.out-is at out_stood in
+          inr (c.status.ensures ∙ ap status_of w.fault-is ∙ only_memory
+          (ap (g.F.Shelf.held c.args.shelf.now) named ∙ holds) within first
+          (λ (rose : Rose (g.F.Shelf.faults c.args.shelf.now) (g.F.Shelf.faults w.flat.new.shelf)). omega arith)
+          (λ (rose : Rose (g.O.Sink.faults c.args.out.now) (g.O.Sink.faults w.flat.new.out)). omega arith)
+          w.in-Err.fault
+          (cause_told (IsTrue (g.F.Shelf.tells_held c.args.shelf.now)) (g.F.Shelf.held c.args.shelf.now w.as_bytes.result.now)
+          (Rose (g.F.Shelf.faults c.args.shelf.now) (g.F.Shelf.faults w.flat.new.shelf)) (Rose (g.O.Sink.faults c.args.out.now) (g.O.Sink.faults w.flat.new.out)) w.in-Err.fault told w.in-Err.ensures.cause))
     ]
