@@ -1,17 +1,15 @@
 -- Directives and the names behind them.
-use Rattle.std.proofs.Common.{ℕ, ◌≡◌, refl, sym, ap, ◌∙◌, subst, ◌+◌, ◌-◌, ◌<◌, ◌≤◌, Bool, true, false, cond, List, [], ◌∷◌, ◌++◌, length, take, drop, slice_range, Option, Some, None, inl, inr, codes, not, nat_eq, arith}
+use Rattle.std.proofs.Common.{ℕ, ◌≡◌, refl, sym, ap, ◌∙◌, subst, ◌+◌, ◌-◌, ◌≤◌, Bool, true, false, cond, List, [], ◌++◌, length, take, drop, slice_range, Some, inl, inr, codes, not, nat_eq, arith}
 use Rattle.std.proofs.Math.Seq.{take-add}
 use Rattle.std.proofs.lemmas.List.Elements.{All-drop}
 use Rattle.std.proofs.lemmas.Slice.Eq.{bytes_eq-Decides}
 use Rattle.std.specs.Cmp.Lexicographic.{pointwise}
-use Rattle.std.specs.List.{All, prefix_len}
+use Rattle.std.specs.List.{All}
 use Rattle.sc_base.specs.Texts.{same}
 use Rattle.sc_base.specs.declared.Place.{Place}
 use Rattle.sc_syntax.specs.declared.token.Token.{Token}
-use Rattle.sc_syntax.specs.Bytes.{is_word}
 use Rattle.sc_syntax.specs.Cuts.{AreValues}
 use Rattle.sc_syntax.specs.Directives.{Names, Scans, with_name, IsDefinition, Defines, Directs, word_start, word_end, directive_word}
-use Rattle.sc_syntax.specs.Spaces.{is_blank}
 use Rattle.sc_syntax.specs.TokenLists.{IsRead}
 use Rattle.sc_syntax.proofs.CutLemmas.{length_part, part_front, part_back}
 use Rattle.sc_syntax.proofs.Scanning.{scan_once}

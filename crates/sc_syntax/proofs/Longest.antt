@@ -1,5 +1,5 @@
 -- The longest piece.
-use Rattle.std.proofs.Common.{ℕ, zero, suc, ◌≡◌, ◌≢◌, refl, sym, ap, ◌∙◌, subst, ◌+◌, ◌<◌, ◌≤◌, zero-le, suc-le-suc, Bool, true, false, ◌&&◌, ◌||◌, ◌==◌, cond, List, [], ◌∷◌, ◌++◌, length, take, drop, slice_index, append_assoc, arith}
+use Rattle.std.proofs.Common.{ℕ, suc, ◌≡◌, refl, sym, ap, ◌∙◌, subst, ◌+◌, ◌<◌, ◌≤◌, zero-le, suc-le-suc, Bool, true, false, ◌&&◌, ◌||◌, ◌==◌, cond, List, [], ◌∷◌, ◌++◌, length, take, drop, slice_index, append_assoc, arith}
 use Rattle.std.proofs.Math.Numerals.{one-add}
 use Rattle.std.proofs.lemmas.Bool.{false≢true}
 use Rattle.std.proofs.lemmas.Bool.Decides.{nat_tests}
@@ -7,10 +7,8 @@ use Rattle.std.proofs.lemmas.List.{length-append, take_at, drop_at, take_more, d
 use Rattle.std.specs.List.{list_all, prefix_len}
 use Rattle.sc_syntax.specs.declared.piece.PieceKind.{PieceKind}
 use Rattle.sc_syntax.specs.declared.piece.PieceKind.TheVariants.{Space, LineComment, BlockComment, OpenComment, Directive, Word, Number, Sign}
-use Rattle.sc_syntax.specs.declared.token.Mark.{Mark}
 use Rattle.sc_syntax.specs.Bytes.{is_letter, is_digit, is_word}
 use Rattle.sc_syntax.specs.Cuts.{BeginsWith, HasNoMark, IsLongestMark}
-use Rattle.sc_syntax.specs.Marks.{mark_text}
 use Rattle.sc_syntax.specs.Pieces.{is_number, begins_digit, begins_number, HasNoEnd, IsPiece, IsNext, IsStuck}
 use Rattle.sc_syntax.specs.Spaces.{is_white, is_inline}
 use Rattle.sc_syntax.proofs.Ends.{has_end, no_end_bound}

@@ -1,7 +1,6 @@
 -- The table of defined names.
-use Rattle.std.proofs.Common.{ℕ, ◌≡◌, refl, sym, ap, ◌∙◌, Bool, true, false, cond, List, Option, Some, None}
+use Rattle.std.proofs.Common.{◌≡◌, refl, ap, ◌∙◌, Bool, true, false, cond, Option, Some}
 use Rattle.std.specs.Option.{option_map}
-use Rattle.sc_syntax.specs.declared.token.Token.{Token}
 
 pub cond_map : {A B : Type 0} (f : A → B) (b : Bool) (x y : Option A) → option_map f (cond b x y) ≡ cond b (option_map f x) (option_map f y)
 cond_map f true x y = refl

@@ -1,7 +1,6 @@
 -- Numbers with a value.
-use Rattle.std.proofs.Common.{ℕ, ◌≡◌, refl, sym, ap, ◌∙◌, subst, ◌+◌, ◌<◌, ◌≤◌, ◌^◌, List, [], ◌∷◌, ◌++◌, ℤ, pos, arith}
-use Rattle.std.specs.Str.Parse.{IsNumeral, AllDigits}
-use Rattle.std.specs.Char.{digit_value}
+use Rattle.std.proofs.Common.{ℕ, ◌≡◌, sym, ap, ◌∙◌, subst, ◌≤◌, ◌^◌, List, ◌∷◌, ℤ, pos, arith}
+use Rattle.std.specs.Str.Parse.{AllDigits}
 use Rattle.sc_base.specs.Decimals.{IsDecimal}
 use Rattle.sc_base.specs.declared.Fixed.{Fixed}
 use Rattle.sc_base.proofs.DecimalLemmas.{decimal_unique, AllDigits-parts}

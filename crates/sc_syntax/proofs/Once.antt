@@ -1,14 +1,13 @@
 -- A source has one outcome at most.
-use Rattle.std.proofs.Common.{ℕ, ◌≡◌, refl, sym, ap, ◌∙◌, subst, ◌+◌, ◌<◌, ◌≤◌, Bool, true, false, List, [], ◌∷◌, ◌++◌, length, map, Option, Some, None, Ok, Err, MatchOption, inl, inr, codes, arith}
+use Rattle.std.proofs.Common.{ℕ, ◌≡◌, refl, sym, ap, ◌∙◌, subst, List, [], ◌++◌, length, map, Option, Some, None, Ok, Err, MatchOption, inl, inr, codes, arith}
 use Rattle.std.specs.declared.result.Result.{Result}
 use Rattle.sc_base.specs.declared.Place.{Place}
 use Rattle.sc_syntax.specs.declared.fault.LexFault.{LexFault}
 use Rattle.sc_syntax.specs.declared.piece.PieceKind.{PieceKind}
 use Rattle.sc_syntax.specs.declared.piece.PieceKind.TheVariants.{Space, LineComment, BlockComment, OpenComment, Directive, Word, Number, Sign}
 use Rattle.sc_syntax.specs.declared.token.Token.{Token}
-use Rattle.sc_syntax.specs.Directives.{Names, no_names, IsScanned, Directs, Defines, directive_word, names_behind, placed}
+use Rattle.sc_syntax.specs.Directives.{Names, no_names, IsScanned, Directs, names_behind, placed}
 use Rattle.sc_syntax.specs.Lexing.{place_after, fault_of, Gives, Reads, at_end, after_piece, at_too_many, at_fault, at_stuck}
-use Rattle.sc_syntax.specs.Pieces.{IsNext, IsStuck}
 use Rattle.sc_syntax.specs.Spaces.{begins_line}
 use Rattle.sc_syntax.proofs.CutLemmas.{SameCut, same_cut}
 use Rattle.sc_syntax.proofs.PieceKinds.{some_byte}

@@ -1,18 +1,17 @@
 -- What a piece is read as.
-use Rattle.std.proofs.Common.{ℕ, ◌≡◌, ◌≢◌, refl, sym, ap, ◌∙◌, subst, ◌+◌, ◌<◌, ◌≤◌, Bool, true, false, List, [], ◌∷◌, ◌++◌, length, pos, ◌≤ℤ◌, arith}
+use Rattle.std.proofs.Common.{ℕ, ◌≡◌, ◌≢◌, refl, sym, ap, ◌∙◌, ◌+◌, ◌≤◌, Bool, List, [], ◌∷◌, ◌++◌, length, arith}
 use Rattle.std.proofs.lemmas.Int.{ints}
 use Rattle.std.proofs.lemmas.List.{length_push, append-nil}
 use Rattle.sc_base.specs.declared.Place.{Place}
 use Rattle.sc_syntax.specs.declared.piece.PieceKind.{PieceKind}
-use Rattle.sc_syntax.specs.declared.piece.PieceKind.TheVariants.{Space, LineComment, BlockComment, OpenComment, Directive, Word, Number, Sign}
+use Rattle.sc_syntax.specs.declared.piece.PieceKind.TheVariants.{Space, LineComment, BlockComment, Word, Number, Sign}
 use Rattle.sc_syntax.specs.declared.reading.Reading.{Reading}
 use Rattle.sc_syntax.specs.declared.reading.Reading.TheVariants.{Passed, Read, Unread}
 use Rattle.sc_syntax.specs.declared.token.Token.{Token}
 use Rattle.sc_syntax.specs.declared.token.TokenSort.{TokenSort}
 use Rattle.sc_syntax.specs.declared.token.TokenSort.TheVariants as sort
-use Rattle.sc_syntax.specs.Cuts.{IsGap, IsReading, IsAddable, tokens_of}
+use Rattle.sc_syntax.specs.Cuts.{IsReading, IsAddable, tokens_of}
 use Rattle.sc_syntax.specs.Directives.{token_at, IsScanned}
-use Rattle.sc_syntax.specs.Names.{IsName}
 use Rattle.sc_syntax.specs.Pieces.{IsPiece, IsReadAs, IsWordSort, IsNumberSort, IsMarkSort}
 use Rattle.sc_syntax.specs.TokenLists.{FitsText, most_tokens}
 use Rattle.sc_syntax.proofs.MarkTable.{one_mark_text}

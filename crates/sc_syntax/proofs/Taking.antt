@@ -1,6 +1,6 @@
 -- What is taken of a piece, and what is refused.
-use Rattle.std.proofs.Common.{ℕ, ◌≡◌, ◌≢◌, refl, sym, ap, ◌∙◌, subst, ◌+◌, ◌<◌, ◌≤◌, Bool, true, false, List, [], ◌∷◌, ◌++◌, length, take, drop, slice_range, map, Option, Some, None, MatchOption, inl, inr, arith}
-use Rattle.std.proofs.lemmas.List.{length_push, append-nil}
+use Rattle.std.proofs.Common.{ℕ, ◌≡◌, ◌≢◌, refl, sym, ap, ◌∙◌, subst, ◌<◌, ◌≤◌, List, ◌++◌, length, take, slice_range, map, Option, None, MatchOption, inl, inr, arith}
+use Rattle.std.proofs.lemmas.List.{length_push}
 use Rattle.std.proofs.lemmas.List.Elements.{All-append, All-map}
 use Rattle.std.specs.List.{All}
 use Rattle.sc_base.specs.declared.Place.{Place}
@@ -12,15 +12,13 @@ use Rattle.sc_syntax.specs.declared.piece.PieceKind.TheVariants.{Space, LineComm
 use Rattle.sc_syntax.specs.declared.reading.Reading.{Reading}
 use Rattle.sc_syntax.specs.declared.reading.Reading.TheVariants.{Passed, Read, Unread}
 use Rattle.sc_syntax.specs.declared.token.Token.{Token}
-use Rattle.sc_syntax.specs.declared.token.TokenSort.{TokenSort}
 use Rattle.sc_syntax.specs.Cuts.{IsReading, IsAddable, IsRefused, tokens_of, Stands, Takes, Refuses}
 use Rattle.sc_syntax.specs.Directives.{Names, IsScanned, Directs, placed}
 use Rattle.sc_syntax.specs.Lexing.{place_after, fault_of, Gives}
-use Rattle.sc_syntax.specs.Pieces.{IsReadAs}
 use Rattle.sc_syntax.specs.Spaces.{begins_line}
 use Rattle.sc_syntax.specs.TokenLists.{most_tokens, IsRead, AreRead}
 use Rattle.sc_syntax.proofs.CutLemmas.{length_part, read_token}
-use Rattle.sc_syntax.proofs.Readings.{StandsAt, scans, scans_token, scans_none, addable_read, few}
+use Rattle.sc_syntax.proofs.Readings.{StandsAt, scans, scans_none, addable_read, few}
 use Rattle.std.proofs.lemmas.List.{length-take-le}
 
 -- a piece stands behind the bytes before it

@@ -1,5 +1,5 @@
 -- What a turn of the lexer's loop keeps.
-use Rattle.std.proofs.Common.{Bool, ℕ, ◌≡◌, refl, sym, ap, ◌∙◌, subst, ◌+◌, ◌-◌, ◌<◌, ◌≤◌, List, [], ◌∷◌, ◌++◌, length, take, drop, slice_range, reverse, count_by, Option, Ok, Err, ◌==◌, inl, inr, ◌⊎◌, arith}
+use Rattle.std.proofs.Common.{Bool, ℕ, ◌≡◌, sym, ap, ◌∙◌, subst, ◌+◌, ◌-◌, ◌<◌, ◌≤◌, List, [], ◌++◌, length, take, drop, slice_range, reverse, Ok, Err, ◌==◌, inl, inr, arith}
 use Rattle.std.proofs.lemmas.List.{length-reverse, drop_all}
 use Rattle.std.proofs.lemmas.List.Folds.{length-prefix_len}
 use Rattle.std.proofs.lemmas.List.Sums.{count_by-le-length, prefix_len-le-length}
@@ -14,7 +14,6 @@ use Rattle.sc_syntax.specs.Directives.{Names, no_names}
 use Rattle.sc_syntax.specs.Lexing.{place_after, fault_of, Gives, Reads, at_end, after_piece, at_too_many, at_fault, at_stuck}
 use Rattle.sc_syntax.specs.Pieces.{IsPiece, IsNext, IsStuck}
 use Rattle.sc_syntax.specs.Spaces.{begins_line, is_inline}
-use Rattle.sc_syntax.specs.TokenLists.{most_tokens}
 use Rattle.sc_syntax.proofs.CutLemmas.{CutsIn, cut_of, ends_within, joined, is_next, passed, left, slice_is, part_all}
 
 -- what the rest gives, the whole gives

@@ -1,7 +1,7 @@
 -- Words of the code that cuts a source.
-use Rattle.std.specs.Prelude.{ℕ, ◌≡◌, ◌<◌, ◌≤◌, ◌+◌, Bool, List, [], ◌∷◌, ◌++◌, length, take, drop, slice_index, slice_range, Option, Some, ◌⊎◌, All}
+use Rattle.std.specs.Prelude.{ℕ, ◌≡◌, ◌<◌, ◌≤◌, Bool, List, [], ◌∷◌, ◌++◌, length, take, drop, slice_index, slice_range, Some, ◌⊎◌, All}
 use Rattle.std.specs.Option.{option_map}
-use Rattle.std.specs.BTreeMap.{BTreeMap, get_by}
+use Rattle.std.specs.BTreeMap.{get_by}
 use Rattle.std.specs.Cmp.Lexicographic.{slice_cmp}
 use Rattle.std.specs.Ordering.{nat_cmp}
 use Rattle.sc_base.specs.declared.Place.{Place}
@@ -12,7 +12,7 @@ use Rattle.sc_syntax.specs.declared.lexing.Found.{Found}
 use Rattle.sc_syntax.specs.declared.piece.Class.{Class}
 use Rattle.sc_syntax.specs.declared.piece.Class.TheVariants as class
 use Rattle.sc_syntax.specs.declared.piece.PieceKind.{PieceKind}
-use Rattle.sc_syntax.specs.declared.piece.PieceKind.TheVariants.{Space, LineComment, BlockComment, OpenComment, Directive, Word, Number, Sign}
+use Rattle.sc_syntax.specs.declared.piece.PieceKind.TheVariants.{Space, LineComment, BlockComment}
 use Rattle.sc_syntax.specs.declared.reading.Reading.{Reading}
 use Rattle.sc_syntax.specs.declared.reading.Reading.TheVariants.{Passed, Read, Unread}
 use Rattle.sc_syntax.specs.declared.token.Mark.{Mark}

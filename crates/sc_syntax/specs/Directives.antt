@@ -1,10 +1,10 @@
 -- Directives, and the names that they define.
-use Rattle.std.specs.Prelude.{ℕ, ◌≡◌, ◌≢◌, ◌+◌, ◌<◌, Bool, true, false, ◌⊎◌, if◌then◌else◌, List, [], ◌∷◌, ◌++◌, length, take, drop, slice_range, count_by, map, All, Option, Some, None, codes}
+use Rattle.std.specs.Prelude.{ℕ, ◌≡◌, ◌≢◌, ◌+◌, ◌<◌, Bool, true, false, ◌⊎◌, if◌then◌else◌, List, [], ◌∷◌, ◌++◌, length, take, drop, slice_range, count_by, All, Option, Some, None, codes}
 use Rattle.std.specs.List.{prefix_len}
 use Rattle.sc_base.specs.Texts.{same}
 use Rattle.sc_base.specs.declared.Place.{Place}
 use Rattle.sc_syntax.specs.declared.piece.PieceKind.{PieceKind}
-use Rattle.sc_syntax.specs.declared.piece.PieceKind.TheVariants.{Space, LineComment, BlockComment, OpenComment, Directive, Word, Number, Sign}
+use Rattle.sc_syntax.specs.declared.piece.PieceKind.TheVariants.{Space, LineComment, BlockComment}
 use Rattle.sc_syntax.specs.declared.token.Mark.TheVariants as mark
 use Rattle.sc_syntax.specs.declared.token.Token.{Token}
 use Rattle.sc_syntax.specs.declared.token.TokenSort.{TokenSort}

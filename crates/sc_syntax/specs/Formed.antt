@@ -1,6 +1,5 @@
 -- Formed trees: what every tree keeps beside its type.
-use Rattle.std.specs.Prelude.{ℕ, suc, ◌≤◌, ℤ, pos, ◌≤ℤ◌, List, [], ◌∷◌, length, Option, Some, None}
-use Rattle.std.specs.List.{All}
+use Rattle.std.specs.Prelude.{ℕ, suc, ◌≤◌, pos, ◌≤ℤ◌, List, [], ◌∷◌, length, Option, Some, None}
 use Rattle.sc_base.specs.declared.GateName.{GateName}
 use Rattle.sc_base.specs.declared.GateName.TheVariants as gate
 use Rattle.sc_syntax.specs.declared.tree.BinOp.{BinOp}

@@ -1,5 +1,5 @@
 -- The tokens of a source, or its first fault.
-use Rattle.std.specs.Prelude.{ℕ, ◌≡◌, ◌+◌, ◌<◌, ◌≤◌, ◌==◌, List, [], ◌∷◌, ◌++◌, length, count_by, map, MatchOption, Ok, Err}
+use Rattle.std.specs.Prelude.{ℕ, ◌≡◌, ◌+◌, ◌<◌, ◌≤◌, ◌==◌, List, [], ◌++◌, length, count_by, map, MatchOption, Ok, Err}
 use Rattle.std.specs.declared.result.Result.{Result}
 use Rattle.sc_base.specs.declared.Place.{Place}
 use Rattle.sc_syntax.specs.declared.fault.LexFault.{LexFault}

@@ -1,4 +1,4 @@
-use Rattle.std.proofs.Common.{◌≡◌, refl, List, take, get_or, subst, All, arith}
+use Rattle.std.proofs.Common.{refl, List, subst, All, arith}
 use Rattle.std.proofs.lemmas.List.{take_all}
 use Rattle.std.proofs.lemmas.List.Elements.{All-more}
 use Rattle.sc_syntax.specs.Cuts.{names_of}

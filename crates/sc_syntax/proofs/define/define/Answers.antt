@@ -1,9 +1,7 @@
-use Rattle.std.proofs.Common.{◌≡◌, ◌∙◌, sym, subst, List, [], take, slice_range, drop, All}
+use Rattle.std.proofs.Common.{sym, subst}
 use Rattle.std.proofs.lemmas.Bool.{false≢true}
 use Rattle.sc_syntax.specs.Cuts.{names_of}
-use Rattle.sc_syntax.specs.Directives.{Scans, IsDefinition}
-use Rattle.sc_syntax.specs.TokenLists.{IsRead}
-use Rattle.sc_syntax.specs.declared.token.Token.{Token as OneToken}
+use Rattle.sc_syntax.specs.Directives.{IsDefinition}
 use Rattle.sc_syntax.proofs.Definitions.{not_defined, values_behind}
 use Rattle.sc_syntax.proofs.define.define.Goals as goal
 

@@ -1,6 +1,6 @@
-use Rattle.std.proofs.Common.{◌≡◌, ◌+◌, ◌≤◌, refl, sym, ◌∙◌, subst, ap, List, [], length, take, slice_range, All, arith}
+use Rattle.std.proofs.Common.{◌≡◌, ◌+◌, sym, ◌∙◌, subst, ap, List, length, take, All, arith}
 use Rattle.std.proofs.lemmas.List.{nil_from_length}
-use Rattle.sc_syntax.specs.Cuts.{IsReading, tokens_of}
+use Rattle.sc_syntax.specs.Cuts.{IsReading}
 use Rattle.sc_syntax.specs.TokenLists.{IsRead}
 use Rattle.sc_syntax.specs.declared.reading.Reading.{Reading}
 use Rattle.sc_syntax.specs.declared.token.Token.{Token as OneToken}

@@ -1,4 +1,4 @@
-use Rattle.std.proofs.Common.{◌-◌, ◌≤◌, length, All}
+use Rattle.std.proofs.Common.{◌-◌, ◌≤◌, All}
 use Rattle.sc_syntax.specs.TokenLists.{IsRead}
 use Rattle.sc_syntax.proofs.Scanning.{ScansOn}
 use Rattle.sc_syntax.proofs.define.scan.Given as goal

@@ -1,5 +1,5 @@
-use Rattle.std.proofs.Common.{◌≡◌, refl, ◌∙◌, sym, subst, codes, List, [], take, slice_range, drop, rules, arith}
-use Rattle.sc_syntax.specs.Directives.{directive_word, word_end}
+use Rattle.std.proofs.Common.{◌≡◌, refl, ◌∙◌, codes, arith}
+use Rattle.sc_syntax.specs.Directives.{directive_word}
 use Rattle.sc_syntax.proofs.Definitions.{LineAt, directs_define, defines_from, same_text, word_from}
 use Rattle.sc_syntax.proofs.Outcomes.{on_ok, if_err}
 use Rattle.sc_syntax.proofs.define.take_directive.Goals as goal

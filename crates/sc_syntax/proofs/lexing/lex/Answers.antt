@@ -1,15 +1,11 @@
-use Rattle.std.proofs.Common.{◌≡◌, ◌≢◌, refl, ◌+◌, ◌++◌, ◌-◌, Bool, List, ℕ, [], Ok, Err, IfErr, ◌∙◌, sym, subst, ap, length, drop, take, slice_range, Some, arith, length-drop}
+use Rattle.std.proofs.Common.{refl, ◌++◌, ◌∙◌, sym, ap, length, take, arith, length-drop}
 use Rattle.std.proofs.lemmas.List.Elements.{All-nil}
 use Rattle.std.proofs.lemmas.Result.{err_from_is_err_and}
-use Rattle.sc_syntax.specs.Cuts.{names_of, Stands}
-use Rattle.sc_syntax.specs.Lexing.{place_after, HasFault, IsLexed}
-use Rattle.sc_syntax.specs.Pieces.{IsNext, IsStuck}
-use Rattle.sc_syntax.specs.Spaces.{begins_line}
-use Rattle.sc_syntax.specs.TokenLists.{AreRead, IsRead}
-use Rattle.sc_syntax.specs.declared.token.Token.{Token as OneToken}
+use Rattle.sc_syntax.specs.Lexing.{place_after}
+use Rattle.sc_syntax.specs.TokenLists.{IsRead}
 use Rattle.sc_syntax.proofs.CutLemmas.{ends_within}
 use Rattle.sc_syntax.proofs.Once.{no_tokens}
-use Rattle.sc_syntax.proofs.Turns.{GoesOn, begins, turn, ends, stuck, refused, cut_here, stuck_here, found_stands, place_moves}
+use Rattle.sc_syntax.proofs.Turns.{begins, turn, ends, stuck, refused, cut_here, stuck_here, found_stands, place_moves}
 use Rattle.sc_syntax.proofs.lexing.lex.Goals as goal
 
 pub loop-at-init : goal.loop-at-init

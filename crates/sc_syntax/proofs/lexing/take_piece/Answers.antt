@@ -1,7 +1,5 @@
-use Rattle.std.proofs.Common.{◌≡◌, refl, ◌∙◌, sym, subst, ap, List, ℕ, [], take, slice_range, drop}
+use Rattle.std.proofs.Common.{subst, List, ℕ}
 use Rattle.sc_syntax.specs.Cuts.{names_of, IsReading}
-use Rattle.sc_syntax.specs.Lexing.{fault_of}
-use Rattle.sc_syntax.specs.declared.piece.PieceKind.{PieceKind}
 use Rattle.sc_syntax.proofs.Outcomes.{on_ok_both, if_err, if_err_both, always_ok}
 use Rattle.sc_syntax.proofs.Taking.{plain_reads, takes, takes_read, refuses, directive_refused}
 use Rattle.sc_syntax.proofs.lexing.take_piece.Goals as goal

@@ -1,7 +1,6 @@
-use Rattle.std.proofs.Common.{◌≡◌, refl, ◌∙◌, sym, subst, ap, List, ℕ, [], take, slice_range, drop}
+use Rattle.std.proofs.Common.{◌≡◌, ◌∙◌, sym, subst, ap, List, ℕ, slice_range}
 use Rattle.sc_syntax.specs.Cuts.{names_of, IsReading, Refuses}
 use Rattle.sc_syntax.specs.Lexing.{fault_of}
-use Rattle.sc_syntax.specs.declared.fault.LexFault.{LexFault}
 use Rattle.sc_syntax.specs.declared.piece.PieceKind.{PieceKind}
 use Rattle.sc_syntax.specs.declared.piece.PieceKind.TheVariants.{Word}
 use Rattle.sc_syntax.proofs.Outcomes.{on_ok_both, if_err}

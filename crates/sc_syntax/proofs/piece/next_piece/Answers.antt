@@ -1,4 +1,4 @@
-use Rattle.std.proofs.Common.{◌≡◌, sym, ◌∙◌, true}
+use Rattle.std.proofs.Common.{sym, ◌∙◌}
 use Rattle.sc_syntax.proofs.Longest.{space_next, word_next, number_next, directive_next, line_next}
 use Rattle.sc_syntax.proofs.piece.next_piece.Goals as goal
 

@@ -1,4 +1,4 @@
-use Rattle.std.proofs.Common.{◌≡◌, drop}
+use Rattle.std.proofs.Common.{drop}
 use Rattle.std.proofs.lemmas.Map.Text.{btree_map_updates_str}
 use mathlib.Core.Path.{fun_ext}
 use Rattle.sc_syntax.proofs.NameTables.{inserted}
