@@ -5,6 +5,15 @@ ghost use Rattle.sc_sched.specs.declared.order.Rank.{Rank};
 ghost use Rattle.sc_sched.specs.Legal.{Step};
 ghost use Rattle.sc_sched.specs.PrioritySchedules.{IsPrioritySchedule, IsRankOrder, NoneIsWider};
 
+use crate::Priority;
+
+/// The order of a priority is lawful.
+pub fn order_is_lawful<P: Priority>(order: &P)
+    ensures { IsRankOrder (P.comes order.now) }
+{
+    let _ = order;
+}
+
 /// A gate list has at most one priority schedule.
 pub fn at_most_one_schedule()
     ensures { (comes : Rank → Rank → Bool) (times : List ℕ) (gates : List Gate) (k d : ℕ) (xs ys : List Step) → IsRankOrder comes →

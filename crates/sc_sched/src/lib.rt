@@ -1,18 +1,19 @@
-// Schedules of gate lists.
+//! Schedules of gate lists on a machine that applies one kind of gate in each region.
 #![tactic(auto)]
 
-pub mod board;
+mod board;
 mod laws;
-pub mod numbers;
-pub mod order;
+mod numbers;
+mod order;
 mod plan;
-pub mod round;
-pub mod taking;
+mod round;
+mod taking;
 mod text;
-pub mod tray;
+mod tray;
 mod wires;
 
-pub use laws::{at_most_one_schedule, some_schedule};
+pub use laws::{at_most_one_schedule, order_is_lawful, some_schedule};
+pub use order::{Lpfs, Priority, Rank, Rcp};
 pub use plan::{Plan, Region, Step};
 pub use text::write_schedule;
 pub use wires::WireTable;

@@ -1,9 +1,9 @@
-// Orders in which ready gates are taken.
+//! Orders in which ready gates are taken.
 ghost use Rattle.std.specs.Prelude.{◌≡◌, Bool, true, false, ◌==◌, ◌<◌};
 ghost use Rattle.sc_sched.specs.Taken.{greater_first};
 ghost use Rattle.sc_sched.specs.Laws.{greater_irreflexive, greater_transitive, greater_total};
 
-// The weight of the heaviest chain that starts at a gate, of the heaviest one that holds it, and its position.
+/// The weight of the heaviest chain that starts at a gate, of the heaviest one that holds it, and its position.
 #[derive(Clone, Copy)]
 pub struct Rank {
     pub height: u64,
@@ -11,11 +11,13 @@ pub struct Rank {
     pub position: u32,
 }
 
+/// An order of ranks: irreflexive, transitive, and of two ranks with different positions exactly one is before the other.
 pub trait Priority {
     ghost use Rattle.sc_sched.specs.declared.order.Rank.{Rank};
 
     ghost comes: { Self → Rank → Rank → Bool };
 
+    /// Whether a gate of rank `a` is taken before one of rank `b`.
     fn before(&self, a: &Rank, b: &Rank) -> bool
         ensures { result ≡ comes self.now a.now b.now };
 
@@ -26,7 +28,7 @@ pub trait Priority {
     ghost total: { (o : Self) (a b : Rank) → comes o a b ≡ false → comes o b a ≡ false → a.position ≡ b.position };
 }
 
-// The greater height first, then the lower position.
+/// The greater height first, then the lower position.
 pub struct Rcp;
 
 impl Priority for Rcp {
@@ -43,7 +45,7 @@ impl Priority for Rcp {
     ghost total = { λ o a b h k. greater_total a.height a.position b.height b.position h k };
 }
 
-// The greater through first, then the lower position.
+/// The greater `through` first, then the lower position.
 pub struct Lpfs;
 
 impl Priority for Lpfs {

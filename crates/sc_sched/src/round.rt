@@ -1,13 +1,14 @@
-// One step of a schedule.
+//! One step of a schedule.
 ghost use Rattle.std.specs.Prelude.{◌≡◌, ◌≢◌, ◌==◌, ◌&&◌, not, ℕ, Bool, true, false, ◌<◌, ◌≤◌, ◌+◌, ◌%◌, ◌++◌, [], ◌∷◌, cond, length, slice_index, slice_set, IfOk, OnOk};
 ghost use Rattle.sc_sched.specs.Board.{layout_of, waits};
 ghost use Rattle.sc_sched.specs.Step.{IsShop, IsStep, count_below};
 ghost use Rattle.sc_sched.specs.Rounds.{shop_of, stands, Free, Counted, Fill, FillsSome, Opened};
 
 use crate::board::Board;
-use crate::tray::{Memory, Tray};
+use crate::tray::Tray;
+use sc_base::Memory;
 
-// Takes the first ready gate as long as a region is free. Answers how many are left free.
+/// Takes the first ready gate as long as a region is free. Answers how many are left free.
 pub fn take_free(
     board: &mut Board,
     tray: &mut Tray,
@@ -38,7 +39,7 @@ pub fn take_free(
     Ok(0)
 }
 
-// Fills the open region of a kind, if it has one.
+/// Fills the open region of a kind, if it has one.
 pub fn fill_kind(board: &mut Board, tray: &mut Tray, room: &[u32], kind: u32) -> Result<(), Memory>
     requires kind { kind < length room.now }
     requires starts { kind + 1 < length board.old.start.items }
@@ -63,7 +64,7 @@ pub fn fill_kind(board: &mut Board, tray: &mut Tray, room: &[u32], kind: u32) ->
     Ok(())
 }
 
-// Takes one step.
+/// Takes one step: a ready gate is taken exactly where it fits beside those taken that are before it in the order.
 pub fn take_step(
     board: &mut Board,
     tray: &mut Tray,

@@ -1,11 +1,11 @@
-// Ready gates leave a board.
+//! Ready gates leave a board.
 ghost use Rattle.std.specs.Prelude.{◌≡◌, ◌≢◌, ◌==◌, ◌&&◌, ◌||◌, not, ℕ, Bool, true, false, ◌<◌, ◌≤◌, ◌+◌, length, slice_index, slice_set, slice_index_or, IfSome, IfNone, List};
 ghost use Rattle.sc_sched.specs.Board.{layout_of, waits};
 
 use crate::board::Board;
 
 impl Board {
-    // The first ready gate leaves.
+    /// The first ready gate leaves.
     pub fn take_first(&mut self) -> Option<u32>
         ensures layout { layout_of self.new ≡ layout_of self.old }
         ensures ready { IfSome result (λ x. (x < length self.old.kind.items) × (waits self.old x ≡ true)) }
@@ -21,7 +21,7 @@ impl Board {
         Some(x)
     }
 
-    // The first ready gate of a kind leaves.
+    /// The first ready gate of a kind leaves.
     pub fn take_of_kind(&mut self, kind: u32) -> Option<u32>
         requires { kind + 1 < length self.old.start.items }
         ensures layout { layout_of self.new ≡ layout_of self.old }
@@ -41,7 +41,7 @@ impl Board {
         Some(x)
     }
 
-    // A gate is ready from here on.
+    /// A gate is ready from here on.
     pub fn add(&mut self, x: u32)
         requires { x < length self.old.kind.items }
         ensures layout { layout_of self.new ≡ layout_of self.old }
