@@ -13,4 +13,3 @@ pub mod Rows
 pub mod Reserved
 pub mod Spaces
 pub mod TokenLists
-pub mod Reserved
