@@ -1,0 +1,6 @@
+pub mod Checks
+pub mod Declarations
+pub mod Numbers
+pub mod Sources
+pub mod Statements
+pub mod Wires
