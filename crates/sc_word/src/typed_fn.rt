@@ -31,7 +31,12 @@ impl Model for TypedFn {
 }
 
 impl TypedFn {
-    pub(crate) fn new(params: Vec<u32>, binds: Vec<TypedExpr>, returned: TypedExpr, scratch: u64) -> TypedFn
+    pub(crate) fn new(
+        params: Vec<u32>,
+        binds: Vec<TypedExpr>,
+        returned: TypedExpr,
+        scratch: u64,
+    ) -> TypedFn
         requires { Rattle.sc_word.specs.Functions.IsCounted (typed_words params.items binds.items returned) scratch }
         ensures { result ≡ typed_words params.items binds.items returned }
     {
