@@ -17,3 +17,6 @@ pub use function::typed;
 pub use laws::values_fit;
 pub use tree::{TypedExpr, TypedLink, TypedNode, WordFault};
 pub use typed_fn::TypedFn;
+
+#[cfg(test)]
+mod tests;

@@ -57,7 +57,7 @@ impl TypedFn {
 
     /// The width of parameter `i`, from 0; `None` exactly where there is no such parameter.
     pub fn param_width(&self, i: u32) -> Option<u32>
-        ensures { result ≡ slice_get self.now.params i }
+        ensures width { result ≡ slice_get self.now.params i }
     {
         self.params.get(i as usize).copied()
     }
@@ -85,7 +85,7 @@ impl TypedFn {
 
     /// The expression of binding `i`, from 0; `None` exactly where there is no such binding.
     pub fn bind(&self, i: u32) -> Option<&TypedExpr>
-        ensures { option_copied result ≡ slice_get self.now.binds i }
+        ensures expression { option_copied result ≡ slice_get self.now.binds i }
     {
         self.binds.get(i as usize)
     }
