@@ -2,5 +2,8 @@
 #![tactic(auto)]
 
 mod fault;
+mod names;
+mod numbers;
+mod wires;
 
 pub use fault::TypeFault;
