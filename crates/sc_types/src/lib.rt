@@ -4,6 +4,7 @@
 mod fault;
 mod names;
 mod numbers;
+mod want;
 mod wires;
 
 pub use fault::TypeFault;
