@@ -1,6 +1,7 @@
 //! Names, kinds and the first fault of a source.
 #![tactic(auto)]
 
+mod call;
 mod fault;
 mod names;
 mod numbers;
