@@ -31,7 +31,9 @@ use Rattle.sc_types.specs.declared.fault.TypeFault.TheVariants.{UnknownName, Wro
 use Rattle.sc_types.specs.Checks.{Check, check}
 use Rattle.sc_types.specs.Declarations.{Declaration, Scope, kinds, declared_kind, is_pi, is_new}
 use Rattle.sc_types.specs.Numbers.{number_checks, int_checks, is_int, may_operate}
-use Rattle.sc_types.specs.Wires.{Want, OneWire, ManyWires, Word, AnInt, ADouble, operand_checks, arguments_checks, gate_wants}
+use Rattle.sc_types.specs.declared.want.Want.{Want}
+use Rattle.sc_types.specs.declared.want.Want.TheVariants.{OneWire, ManyWires, Word, AnInt, ADouble}
+use Rattle.sc_types.specs.Wires.{operand_checks, arguments_checks, gate_wants}
 
 -- checks in order, and the declarations made on the way
 pub record Walk : Type 0 where

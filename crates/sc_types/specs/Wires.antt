@@ -11,18 +11,11 @@ use Rattle.sc_syntax.specs.declared.Expr.{Expr}
 use Rattle.sc_syntax.specs.declared.Operand.{Operand}
 use Rattle.sc_syntax.specs.declared.Node.{Node, Int, Decimal, Name, Index', Paren', Unary', Chain', Pick'}
 use Rattle.sc_syntax.specs.Kind.{Kinds}
+use Rattle.sc_types.specs.declared.want.Want.{Want}
+use Rattle.sc_types.specs.declared.want.Want.TheVariants.{OneWire, ManyWires, Word, AnInt, ADouble}
 use Rattle.sc_types.specs.declared.fault.TypeFault.TheVariants.{UnknownName, WrongKind}
 use Rattle.sc_types.specs.Checks.{Check, check}
 use Rattle.sc_types.specs.Numbers.{number_checks, int_checks, number_node, is_int}
-
--- what an argument is to be
-pub data Want : Type 0 where
-  OneWire : Class → Want
-  ManyWires : Class → Want
-  -- a qubit array or one qubit, for a word of a classical function
-  Word : Want
-  AnInt : Want
-  ADouble : Want
 
 abbrev pub same_class : Class → Class → Bool
 same_class Q Q = true
