@@ -1,5 +1,5 @@
 -- Parameters, bindings and the returned expression, one after the other.
-use Rattle.std.proofs.Common.{◌≡◌, ◌≢◌, ℕ, zero, suc, ◌+◌, ◌^◌, ◌<◌, ◌≤◌, Bool, true, false, if◌then◌else◌, nat_eq, nat_lt, List, [], ◌∷◌, ◌++◌, length, length-append, map, take, drop, get_or, drop-cons, Option, Some, None, Result, Ok, Err, refl, sym, ap, ◌∙◌, subst, append_assoc, arith}
+use Rattle.std.proofs.Common.{◌≡◌, ◌≢◌, ℕ, suc, ◌+◌, ◌^◌, ◌<◌, Bool, true, if◌then◌else◌, List, [], ◌∷◌, ◌++◌, length, length-append, take, drop, get_or, drop-cons, Option, Some, None, Result, Err, refl, sym, ap, ◌∙◌, subst, append_assoc, arith}
 use Rattle.std.specs.Prelude.{IfErr}
 use Rattle.std.proofs.lemmas.Bool.{ltb-true, eqb-true}
 use Rattle.std.proofs.lemmas.List.{map-append, take_more}
@@ -13,10 +13,10 @@ use Rattle.sc_word.specs.declared.operand.Operand.{Operand}
 use Rattle.sc_word.specs.declared.tree.TypedExpr.{TypedExpr}
 use Rattle.sc_word.specs.declared.tree.WordFault.{WordFault}
 use Rattle.sc_word.specs.declared.tree.WordFault.TheVariants.{Memory}
-use Rattle.sc_word.specs.Words.{Words, Named, named, widths_of, IsWidth, AreWidths}
-use Rattle.sc_word.specs.Forms.{amount, own_width, form}
+use Rattle.sc_word.specs.Words.{Words, named, widths_of, IsWidth, AreWidths}
+use Rattle.sc_word.specs.Forms.{amount, form}
 use Rattle.sc_word.specs.Checks.{Check, first_fault, is_new, in_bounds, no_literal, result_fits, param_word, bind_word, checks_params}
-use Rattle.sc_word.specs.Typed.{TypesBinds, TypesExpr, IsLiteral}
+use Rattle.sc_word.specs.Typed.{TypesBinds}
 use Rattle.sc_word.specs.Operands.{or_else, fault_expr, fault_binds, form_of, with_width, Walked, Bound, Returned, GoesOn, Declaring}
 use Rattle.sc_word.proofs.Operating.{neither, passes, takes, Suits, types_width}
 use Rattle.sc_word.proofs.Fitting.{areWidths-push}
@@ -49,8 +49,8 @@ params_more done rest all p ws more widths longer w h fresh bounds e a m l =
       widths_are = l ∙ ap (λ (x : ℕ). widths ++ x ∷ []) e ∙ ap (λ (x : List ℕ). x ++ amount p.width ∷ []) h.widths_are ∙ sym (map-append (λ (q : WordParam). amount q.width) done (p ∷ []));
       bounds = subst (λ (x : Words). AreWidths (widths_of x)) (sym m) (areWidths-push ws (named p.name.text w) h.bounds a);
       fault = ap (λ (x : Words). first_fault (checks_params x rest)) m'
-        ∙ sym (skip (is_new ws p.name) (in_bounds p.width ∷ checks_params (ws ++ param_word p ∷ []) rest) new ∙ skip (in_bounds p.width) (checks_params (ws ++ param_word p ∷ []) rest) inside)
-        ∙ h.fault;
+          ∙ sym (skip (is_new ws p.name) (in_bounds p.width ∷ checks_params (ws ++ param_word p ∷ []) rest) new ∙ skip (in_bounds p.width) (checks_params (ws ++ param_word p ∷ []) rest) inside)
+          ∙ h.fault;
     }
 
 none_left : (a b : Option WordFault) → or_else a b ≡ None → a ≡ None
@@ -73,11 +73,11 @@ binds_more from ws more all rest b made longer t result w h k fresh m l =
       scope = subst (λ (x : Words). AreWidths (widths_of x)) (sym m) (areWidths-push ws (named b.name.text t.width) h.scope (types_width ws b.value.node t.width t.node h.scope k.tree));
       count = omega (arith, h.count, ap length m, length-append ws (named b.name.text t.width ∷ []));
       fault = ap (λ (x : Words). fault_binds x rest result w) m'
-        ∙ sym (ap (λ (x : Option WordFault). or_else x (or_else (first_fault (no_literal b.value.place (form ws b.value) ∷ is_new ws b.name ∷ [])) (fault_binds (ws ++ bind_word ws b ∷ []) rest result w))) first
+          ∙ sym (ap (λ (x : Option WordFault). or_else x (or_else (first_fault (no_literal b.value.place (form ws b.value) ∷ is_new ws b.name ∷ [])) (fault_binds (ws ++ bind_word ws b ∷ []) rest result w))) first
           ∙ ap (λ (x : Option WordFault). or_else x (fault_binds (ws ++ bind_word ws b ∷ []) rest result w)) two)
-        ∙ h.fault;
+          ∙ h.fault;
       trees = λ others last g. subst (λ (x : List TypedExpr). TypesBinds from all result x last) (sym (ap (λ (x : List TypedExpr). x ++ others) l ∙ append_assoc made (t ∷ []) others))
-        (h.trees (t ∷ others) last (k.tree, subst (λ (x : Words). TypesBinds x rest result others last) m g));
+          (h.trees (t ∷ others) last (k.tree, subst (λ (x : Words). TypesBinds x rest result others last) m g));
     }
 
 append-nil : (xs : List TypedExpr) → xs ++ [] ≡ xs

@@ -1,5 +1,5 @@
 -- The scratch qubits of a typed function are few enough for 64 bits.
-use Rattle.std.proofs.Common.{◌≡◌, ℕ, zero, suc, ◌+◌, ◌-◌, ◌*◌, ◌^◌, ◌<◌, ◌≤◌, min, List, [], ◌∷◌, ◌++◌, length, sum_by, refl, sym, ap, ◌∙◌, subst, arith}
+use Rattle.std.proofs.Common.{◌≡◌, ℕ, ◌+◌, ◌-◌, ◌*◌, ◌≤◌, List, [], ◌∷◌, ◌++◌, length, sum_by, sym, ap, arith}
 use Rattle.std.proofs.Math.Nat.{mul-le-mul}
 use Rattle.std.proofs.lemmas.List.Sums.{sum_by-cons}
 use Rattle.std.specs.List.{All}
@@ -16,9 +16,9 @@ use Rattle.sc_syntax.specs.FormedWords.{IsFormedWordNode, AreFormedWordLinks, Is
 use Rattle.sc_word.specs.declared.tree.TypedExpr.{TypedExpr}
 use Rattle.sc_word.specs.declared.tree.TypedNode.{TypedNode, Literal, Word, Not', Chain', Shift', Pick', Ext', Low', Row_of-TypedLink, end_of-TypedLink, more_of-TypedLink}
 use Rattle.sc_word.specs.Words.{Words, named, widths_of, IsWidth, AreWidths}
-use Rattle.sc_word.specs.Forms.{amount, op_width}
-use Rattle.sc_word.specs.Typed.{TypesAs, TypesRow, TypesExpr, TypesBinds, OpFits}
-use Rattle.sc_word.specs.Scratch.{adder_scratch, op_scratch, shift_scratch, scratch_node, scratch_row, scratch}
+use Rattle.sc_word.specs.Forms.{op_width}
+use Rattle.sc_word.specs.Typed.{TypesAs, TypesRow, TypesBinds, OpFits}
+use Rattle.sc_word.specs.Scratch.{op_scratch, shift_scratch, scratch_node, scratch_row, scratch}
 use Rattle.sc_word.proofs.Operating.{types_width, op_is_width}
 use Rattle.sc_word.proofs.Fitting.{areWidths-push}
 
@@ -81,7 +81,12 @@ pub binds_small : (ws : Words) (bs : List Bind) (result : WordExpr) (ts : List T
 binds_small ws [] result [] t a f g h = omega (arith, node_small ws result.node t.width t.node a g h)
 binds_small ws (b ∷ bs) result (u ∷ ts) t a f g h =
     let w = types_width ws b.value.node u.width u.node a h.0 in
-    omega (arith, sum_by-cons scratch u ts, sum_by-cons (λ (x : Bind). count_words x.value) b bs, node_small ws b.value.node u.width u.node a (All-head IsFormedBind b bs f).1 h.0,
-      binds_small (ws ++ named b.name.text u.width ∷ []) bs result ts t (areWidths-push ws (named b.name.text u.width) a w) (All-tail IsFormedBind b bs f) g h.1)
+    omega (
+      arith,
+      sum_by-cons scratch u ts,
+      sum_by-cons (λ (x : Bind). count_words x.value) b bs,
+      node_small ws b.value.node u.width u.node a (All-head IsFormedBind b bs f).1 h.0,
+      binds_small (ws ++ named b.name.text u.width ∷ []) bs result ts t (areWidths-push ws (named b.name.text u.width) a w) (All-tail IsFormedBind b bs f) g h.1,
+    )
 binds_small ws [] result (u ∷ ts) t a f g h = absurd h
 binds_small ws (b ∷ bs) result [] t a f g h = absurd h

@@ -1,5 +1,5 @@
 -- A chain of operators, link by link.
-use Rattle.std.proofs.Common.{◌≡◌, ◌≢◌, true, ℕ, zero, suc, ◌+◌, ◌<◌, ◌≤◌, List, [], ◌∷◌, ◌++◌, length, take, drop, Option, Some, None, refl, sym, ap, ◌∙◌, subst, arith}
+use Rattle.std.proofs.Common.{◌≡◌, ◌≢◌, true, ℕ, suc, ◌+◌, ◌<◌, List, [], ◌∷◌, ◌++◌, length, take, drop, Option, Some, None, refl, sym, ap, ◌∙◌, subst, arith}
 use Rattle.std.specs.declared.boxed.Box.{Box}
 use Rattle.std.specs.declared.vec.Vec.{Vec}
 use Rattle.std.specs.declared.alloc.Global.{Global}
@@ -18,7 +18,7 @@ use Rattle.sc_syntax.proofs.Rows.{over_word_links, word_links_of}
 use Rattle.sc_word.specs.declared.chain.Chain.{Chain}
 use Rattle.sc_word.specs.declared.chain.Chain.TheVariants.{Start, Joined}
 use Rattle.sc_word.specs.declared.operand.Form.{Form}
-use Rattle.sc_word.specs.declared.operand.Form.TheVariants.{Bare, Wide}
+use Rattle.sc_word.specs.declared.operand.Form.TheVariants.{Wide}
 use Rattle.sc_word.specs.declared.operand.Operand.{Operand}
 use Rattle.sc_word.specs.declared.operand.Operand.TheVariants as operand
 use Rattle.sc_word.specs.declared.tree.TypedExpr.{TypedExpr}
@@ -29,9 +29,9 @@ use Rattle.sc_word.specs.declared.tree.WordFault.{WordFault}
 use Rattle.sc_word.specs.declared.tree.WordFault.TheVariants.{Memory}
 use Rattle.sc_word.specs.Words.{Words, widths_of, IsWidth, AreWidths}
 use Rattle.sc_word.specs.Forms.{own_width, shared, op_width, form_node, form, row_width, links_width}
-use Rattle.sc_word.specs.Checks.{first_fault, no_literal, meet, op_fits, width_rule}
+use Rattle.sc_word.specs.Checks.{first_fault, no_literal, meet, op_fits}
 use Rattle.sc_word.specs.Typed.{TypesAs, TypesRow, TypesExpr, OpFits}
-use Rattle.sc_word.specs.Operands.{or_else, fault_node, fault_row, fault_links, fault_expr, form_of, with_width, TypesOperand, Walked, IsJoined, IsChain, LinksAs, InChain, Chained, chain_form, first_of, links_of}
+use Rattle.sc_word.specs.Operands.{or_else, fault_node, fault_row, fault_links, fault_expr, form_of, with_width, Walked, IsJoined, IsChain, LinksAs, InChain, Chained, chain_form, first_of, links_of}
 use Rattle.sc_word.proofs.TypedRows.{typed_links_of}
 use Rattle.sc_word.proofs.Operating.{neither, first_stands, second_stands, passes, Takes, takes_by, suits_own, both_by, wide_is_width, types_width, op_is_width, Suits}
 
@@ -65,10 +65,12 @@ types_row ws x w (more_of-WordLink o place q n rest) (more_of-TypedLink t y e li
 
 pub types_chain : (ws : Words) (w : ℕ) (first : Box WordExpr Global) (links : Vec WordLink Global) (word : Box TypedExpr Global) (made : Vec TypedLink Global)
     → TypesAs ws first.value.node word.value.width word.value.node → LinksAs ws word.value.width w links.items made.items → TypesAs ws (source.Chain first links) w (typed.Chain word made)
-types_chain ws w first links word made t h =
-    (t, types_row ws word.value.width w (word_links_of (source.Chain first links)).1 (typed_links_of (typed.Chain word made)).1
-    (subst (λ (ls : List WordLink). LinksAs ws word.value.width w ls (items-the_row-TypedLink (typed_links_of (typed.Chain word made)).0 (typed_links_of (typed.Chain word made)).1)) (sym (items_hidden-the_row-WordLink-0 links))
-    (subst (λ (ts : List TypedLink). LinksAs ws word.value.width w links.items ts) (sym (items_hidden-the_row-TypedLink-0 made)) h)))
+types_chain ws w first links word made t h = (
+  t,
+  types_row ws word.value.width w (word_links_of (source.Chain first links)).1 (typed_links_of (typed.Chain word made)).1
+      (subst (λ (ls : List WordLink). LinksAs ws word.value.width w ls (items-the_row-TypedLink (typed_links_of (typed.Chain word made)).0 (typed_links_of (typed.Chain word made)).1)) (sym (items_hidden-the_row-WordLink-0 links))
+      (subst (λ (ts : List TypedLink). LinksAs ws word.value.width w links.items ts) (sym (items_hidden-the_row-TypedLink-0 made)) h)),
+)
 
 -- ---- widths along a chain
 
@@ -108,15 +110,19 @@ joined_so_far : (ws : Words) (n : source.WordNode) (done : List WordLink) (l : W
     → made.items ≡ links_of chain ++ record { op = l.op; right = t } ∷ []
     → InChain ws n (done ++ l ∷ []) (Joined (first_of t.width chain) made (op_width l.op t.width))
 joined_so_far ws n done l (Start o) t made h s r f e =
-    let first = takes_by ws n o t.width h.1 h.2 s in
-    (first.tree, subst (λ (ts : List TypedLink). LinksAs ws (with_width t.width o).width (op_width l.op t.width) (done ++ l ∷ []) ts) (sym e)
-      (subst (λ (ls : List WordLink). LinksAs ws (with_width t.width o).width (op_width l.op t.width) (ls ++ l ∷ []) ([] ++ record { op = l.op; right = t } ∷ [])) (sym h.0)
-      (links_push ws (with_width t.width o).width t.width [] [] l (record { op = l.op; right = t }) first.width refl r refl f)))
+    let first = takes_by ws n o t.width h.1 h.2 s in (
+      first.tree,
+      subst (λ (ts : List TypedLink). LinksAs ws (with_width t.width o).width (op_width l.op t.width) (done ++ l ∷ []) ts) (sym e)
+          (subst (λ (ls : List WordLink). LinksAs ws (with_width t.width o).width (op_width l.op t.width) (ls ++ l ∷ []) ([] ++ record { op = l.op; right = t } ∷ [])) (sym h.0)
+          (links_push ws (with_width t.width o).width t.width [] [] l (record { op = l.op; right = t }) first.width refl r refl f)),
+    )
 joined_so_far ws n done l (Joined first links x) t made h s r f e =
-    let q : x ≡ t.width = s in
-    (h.0, subst (λ (ts : List TypedLink). LinksAs ws first.width (op_width l.op t.width) (done ++ l ∷ []) ts) (sym e)
-      (subst (λ (y : ℕ). LinksAs ws first.width (op_width l.op y) (done ++ l ∷ []) (links.items ++ record { op = l.op; right = t } ∷ [])) q
-      (links_push ws first.width x done links.items l (record { op = l.op; right = t }) h.1 refl r (sym q) (subst (OpFits l.op) (sym q) f))))
+    let q : x ≡ t.width = s in (
+      h.0,
+      subst (λ (ts : List TypedLink). LinksAs ws first.width (op_width l.op t.width) (done ++ l ∷ []) ts) (sym e)
+          (subst (λ (y : ℕ). LinksAs ws first.width (op_width l.op y) (done ++ l ∷ []) (links.items ++ record { op = l.op; right = t } ∷ [])) q
+          (links_push ws first.width x done links.items l (record { op = l.op; right = t }) h.1 refl r (sym q) (subst (OpFits l.op) (sym q) f))),
+    )
 
 pub chain_more : (ws : Words) (at p : Place) (n : source.WordNode) (done rest all : List WordLink) (l : WordLink) (chain r : Chain) (o : Operand) → AreWidths (widths_of ws)
     → Chained ws at p n done (l ∷ rest) all chain → Walked ws l.right.place l.right.node o
@@ -131,17 +137,17 @@ chain_more ws at p n done rest all l chain r o a h k none i =
     let right = takes_by ws l.right.node o w k.form k.tree both.right in
     let t : TypedExpr = with_width w o in
     let none' : first_fault (meet at p left l.right.place (form ws l.right) ∷ op_fits at l.op (shared left (form ws l.right)) ∷ []) ≡ None =
-        subst (λ (f : Form). first_fault (meet at p left l.right.place f ∷ op_fits at l.op (shared left f) ∷ []) ≡ None) k.form none in
+    subst (λ (f : Form). first_fault (meet at p left l.right.place f ∷ op_fits at l.op (shared left f) ∷ []) ≡ None) k.form none in
     let wide : ℕ = op_width l.op (shared left (form ws l.right)) in
     let width : op_width l.op w ≡ wide = ap (λ (f : Form). op_width l.op (shared left f)) k.form in
     subst (λ (c : Chain). Chained ws at p n (done ++ l ∷ []) rest all c) (sym i.is) (record {
       so_far = subst (λ (y : ℕ). InChain ws n (done ++ l ∷ []) (Joined (first_of y chain) i.links (op_width l.op y))) right.width
-        (joined_so_far ws n done l chain t i.links h.so_far (subst (Suits left) (sym right.width) both.left) right.tree
+          (joined_so_far ws n done l chain t i.links h.so_far (subst (Suits left) (sym right.width) both.left) right.tree
           (subst (OpFits l.op) (sym right.width) (fits_from at l.op w both.width second.0)) i.items);
       fault = ap (λ (y : ℕ). fault_links ws at p (Wide y) rest) width
-        ∙ sym (ap (λ (x : Option WordFault). or_else x (or_else (first_fault (meet at p left l.right.place (form ws l.right) ∷ op_fits at l.op (shared left (form ws l.right)) ∷ [])) (fault_links ws at p (Wide wide) rest))) k.fault
+          ∙ sym (ap (λ (x : Option WordFault). or_else x (or_else (first_fault (meet at p left l.right.place (form ws l.right) ∷ op_fits at l.op (shared left (form ws l.right)) ∷ [])) (fault_links ws at p (Wide wide) rest))) k.fault
           ∙ ap (λ (x : Option WordFault). or_else x (fault_links ws at p (Wide wide) rest)) none')
-        ∙ h.fault;
+          ∙ h.fault;
       width = ap (λ (y : ℕ). links_width ws (Wide y) rest) width ∙ h.width;
     })
 
@@ -152,12 +158,12 @@ finished_types ws first links (Start o) word made h s e q =
     let t = takes_by ws first.value.node o (own_width (form_of o)) h.1 h.2 s in
     let u : Takes ws first.value.node (own_width (form_of o)) word.value = subst (Takes ws first.value.node (own_width (form_of o))) (sym e) t in
     types_chain ws (own_width (form_of o)) first links word made u.tree
-      (subst (λ (ts : List TypedLink). LinksAs ws word.value.width (own_width (form_of o)) links.items ts) (sym q)
-      (subst (λ (ls : List WordLink). LinksAs ws word.value.width (own_width (form_of o)) ls []) (sym h.0) u.width))
+    (subst (λ (ts : List TypedLink). LinksAs ws word.value.width (own_width (form_of o)) links.items ts) (sym q)
+    (subst (λ (ls : List WordLink). LinksAs ws word.value.width (own_width (form_of o)) ls []) (sym h.0) u.width))
 finished_types ws first links (Joined f ls w) word made h s e q =
     types_chain ws w first links word made (subst (λ (t : TypedExpr). TypesAs ws first.value.node t.width t.node) (sym e) h.0)
-      (subst (λ (ts : List TypedLink). LinksAs ws word.value.width w links.items ts) (sym q)
-      (subst (λ (t : TypedExpr). LinksAs ws t.width w links.items ls.items) (sym e) h.1))
+    (subst (λ (ts : List TypedLink). LinksAs ws word.value.width w links.items ts) (sym q)
+    (subst (λ (t : TypedExpr). LinksAs ws t.width w links.items ls.items) (sym e) h.1))
 
 pub chain_end : (ws : Words) (at : Place) (first : Box WordExpr Global) (links : Vec WordLink Global) (chain : Chain) (r : Operand)
     → fault_expr ws first.value ≡ None → Chained ws at first.value.place first.value.node links.items [] links.items chain
@@ -184,7 +190,7 @@ pub join_fault : (ws : Words) (at p : Place) (n : source.WordNode) (done rest al
     → fault_links ws at p (form_node ws n) all ≡ Some f
 join_fault ws at p n done rest all l chain o f h k e =
     sym h.fault ∙ second_stands (fault_expr ws l.right) _ k.fault (first_stands _ _
-      (subst (λ (g : Form). first_fault (meet at p (chain_form chain) l.right.place g ∷ op_fits at l.op (shared (chain_form chain) g) ∷ []) ≡ Some f) k.form e))
+    (subst (λ (g : Form). first_fault (meet at p (chain_form chain) l.right.place g ∷ op_fits at l.op (shared (chain_form chain) g) ∷ []) ≡ Some f) k.form e))
 
 -- ---- the next link of a list
 

@@ -1,5 +1,5 @@
 -- The fault that the functions of this crate speak of is that of the first check that fails.
-use Rattle.std.proofs.Common.{◌≡◌, ℕ, Bool, true, false, if◌then◌else◌, List, [], ◌∷◌, ◌++◌, map, Option, Some, None, refl, sym, ap, ◌∙◌}
+use Rattle.std.proofs.Common.{◌≡◌, ℕ, Bool, true, false, if◌then◌else◌, List, [], ◌∷◌, ◌++◌, map, Option, Some, None, refl, ap, ◌∙◌}
 use Rattle.sc_base.specs.declared.Place.{Place}
 use Rattle.sc_syntax.specs.declared.WordExpr.{WordExpr}
 use Rattle.sc_syntax.specs.declared.Bind.{Bind}
@@ -43,7 +43,7 @@ mutual
       let last : List Check = bare_test p1 (form_node ws n1) ∷ meet p1 p2 (form_node ws n2) p3 (form_node ws n3) ∷ wide_test p1 (form_node ws n1) ∷ [] in
       after (checks_node ws p1 n1) (checks_node ws p2 n2 ++ (checks_node ws p3 n3 ++ last)) (fault_node ws p1 n1) (fault_of_node ws p1 n1)
       ∙ ap (or_else (fault_node ws p1 n1)) (after (checks_node ws p2 n2) (checks_node ws p3 n3 ++ last) (fault_node ws p2 n2) (fault_of_node ws p2 n2)
-        ∙ ap (or_else (fault_node ws p2 n2)) (after (checks_node ws p3 n3) last (fault_node ws p3 n3) (fault_of_node ws p3 n3)))
+      ∙ ap (or_else (fault_node ws p2 n2)) (after (checks_node ws p3 n3) last (fault_node ws p3 n3) (fault_of_node ws p3 n3)))
   fault_of_node ws at (Ext' b p n w) = after (checks_node ws p n) (ext_checks p (form_node ws n) w) (fault_node ws p n) (fault_of_node ws p n)
   fault_of_node ws at (Low' b p n w) = after (checks_node ws p n) (low_checks p (form_node ws n) w) (fault_node ws p n) (fault_of_node ws p n)
 
@@ -68,4 +68,4 @@ fault_of_fn f =
     let body : List Check = checks_binds (map param_word f.params) f.binds f.result (amount f.width) in
     first_fault-append (checks_params [] f.params) ((in_bounds f.width ∷ []) ++ body)
     ∙ ap (or_else (first_fault (checks_params [] f.params))) (first_fault-append (in_bounds f.width ∷ []) body
-      ∙ ap (or_else (first_fault (in_bounds f.width ∷ []))) (fault_of_binds (map param_word f.params) f.binds f.result (amount f.width)))
+    ∙ ap (or_else (first_fault (in_bounds f.width ∷ []))) (fault_of_binds (map param_word f.params) f.binds f.result (amount f.width)))

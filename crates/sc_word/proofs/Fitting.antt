@@ -1,5 +1,5 @@
 -- A typed tree of a source fits its widths.
-use Rattle.std.proofs.Common.{◌≡◌, ℕ, zero, suc, ◌+◌, ◌<◌, ◌≤◌, Bool, List, [], ◌∷◌, ◌++◌, length, map, get_or, Option, Some, None, refl, sym, ap, ◌∙◌, subst, arith}
+use Rattle.std.proofs.Common.{◌≡◌, ℕ, zero, suc, ◌<◌, List, [], ◌∷◌, ◌++◌, length, map, refl, ap, ◌∙◌, subst, arith}
 use Rattle.std.specs.Prelude.{slice_index}
 use Rattle.std.proofs.lemmas.List.Quantifiers.{position-Some}
 use Rattle.std.proofs.lemmas.List.{map-append}
@@ -11,11 +11,11 @@ use Rattle.sc_syntax.specs.declared.WordNode as source
 use Rattle.sc_syntax.specs.declared.WordNode.{WordNode, Row_of-WordLink, end_of-WordLink, more_of-WordLink}
 use Rattle.sc_word.specs.declared.tree.TypedExpr.{TypedExpr}
 use Rattle.sc_word.specs.declared.tree.TypedNode.{TypedNode, Literal, Word, Not', Chain', Shift', Pick', Ext', Low', Row_of-TypedLink, end_of-TypedLink, more_of-TypedLink}
-use Rattle.sc_word.specs.Words.{Words, Named, named, number_of, has_name, width_at, widths_of, IsWidth, AreWidths}
+use Rattle.sc_word.specs.Words.{Words, Named, named, has_name, width_at, widths_of, IsWidth, AreWidths}
 use Rattle.sc_word.specs.Forms.{amount, op_width}
 use Rattle.sc_word.specs.Checks.{param_word}
-use Rattle.sc_word.specs.Typed.{TypesAs, TypesRow, TypesExpr, TypesBinds, OpFits}
-use Rattle.sc_word.specs.Fits.{TypedAs, TypedRow, TypedExprAs, TypedAll}
+use Rattle.sc_word.specs.Typed.{TypesAs, TypesRow, TypesBinds, OpFits}
+use Rattle.sc_word.specs.Fits.{TypedAs, TypedRow, TypedAll}
 
 width_there : (ws : Words) (i : ℕ) → i < length ws → (i < length (widths_of ws)) × (slice_index (widths_of ws) i ≡ width_at ws i)
 width_there [] i h = absurd (omega arith)
@@ -51,9 +51,10 @@ widths_push ws x = map-append (λ (w : Named). w.width) ws (x ∷ [])
 
 pub typed_all : (ws : Words) (bs : List Bind) (result : WordExpr) (ts : List TypedExpr) (t : TypedExpr) → TypesBinds ws bs result ts t → TypedAll (widths_of ws) ts t
 typed_all ws [] result [] t h = typed_as ws result.node t.width t.node h
-typed_all ws (b ∷ bs) result (u ∷ ts) t h =
-    (typed_as ws b.value.node u.width u.node h.0,
-      subst (λ (l : List ℕ). TypedAll l ts t) (widths_push ws (named b.name.text u.width)) (typed_all (ws ++ named b.name.text u.width ∷ []) bs result ts t h.1))
+typed_all ws (b ∷ bs) result (u ∷ ts) t h = (
+  typed_as ws b.value.node u.width u.node h.0,
+  subst (λ (l : List ℕ). TypedAll l ts t) (widths_push ws (named b.name.text u.width)) (typed_all (ws ++ named b.name.text u.width ∷ []) bs result ts t h.1),
+)
 typed_all ws [] result (u ∷ ts) t h = absurd h
 typed_all ws (b ∷ bs) result [] t h = absurd h
 

@@ -6,3 +6,4 @@ pub mod Fitting
 pub mod Naming
 pub mod Operating
 pub mod TypedRows
+pub mod Valuing

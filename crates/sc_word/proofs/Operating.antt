@@ -1,5 +1,5 @@
 -- What is typed where an operand takes a width.
-use Rattle.std.proofs.Common.{◌≡◌, ℕ, zero, suc, ◌+◌, ◌*◌, ◌^◌, ◌<◌, ◌≤◌, Bool, true, false, ◌&&◌, nat_eq, nat_lt, nat_le, if◌then◌else◌, List, [], ◌∷◌, length, map, Option, Some, None, refl, sym, ap, ◌∙◌, subst, arith}
+use Rattle.std.proofs.Common.{◌≡◌, ℕ, zero, suc, ◌^◌, ◌<◌, ◌≤◌, Bool, true, false, ◌&&◌, nat_lt, nat_le, if◌then◌else◌, List, [], ◌∷◌, length, Option, Some, None, refl, sym, ap, ◌∙◌, subst, arith}
 use Rattle.std.specs.Prelude.{unsigned_abs}
 use Rattle.std.specs.declared.boxed.Box.{Box}
 use Rattle.std.specs.declared.alloc.Global.{Global}
@@ -20,11 +20,11 @@ use Rattle.sc_word.specs.declared.tree.TypedExpr.{TypedExpr}
 use Rattle.sc_word.specs.declared.tree.TypedNode as typed
 use Rattle.sc_word.specs.declared.tree.TypedNode.{TypedNode, Literal, Word, Not', Chain', Shift', Pick', Ext', Low', Row_of-TypedLink, end_of-TypedLink, more_of-TypedLink}
 use Rattle.sc_word.specs.declared.tree.WordFault.{WordFault}
-use Rattle.sc_word.specs.Words.{Words, Named, number_of, has_name, width_at, widths_of, IsWidth, AreWidths}
+use Rattle.sc_word.specs.Words.{Words, number_of, has_name, width_at, widths_of, IsWidth, AreWidths}
 use Rattle.sc_word.specs.Forms.{amount, own_width, shared, op_width, form_node}
-use Rattle.sc_word.specs.Checks.{Check, first_fault, width_rule, no_literal, meet, bare_test, wide_test, low_checks, op_fits}
-use Rattle.sc_word.specs.Typed.{TypesAs, TypesRow, IsLiteral, OpFits}
-use Rattle.sc_word.specs.Operands.{or_else, fault_node, form_of, with_width, word_of, TypesOperand, Walked, IsScope, IsPick, IsLow}
+use Rattle.sc_word.specs.Checks.{Check, first_fault, width_rule, no_literal, meet, bare_test, wide_test, low_checks}
+use Rattle.sc_word.specs.Typed.{TypesAs, TypesRow, IsLiteral}
+use Rattle.sc_word.specs.Operands.{or_else, form_of, with_width, word_of, TypesOperand, Walked, IsPick, IsLow}
 
 -- ---- faults
 

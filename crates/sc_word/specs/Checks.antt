@@ -1,5 +1,5 @@
 -- The checks of a classical function, in the order of its text.
-use Rattle.std.specs.Prelude.{ℕ, ◌^◌, Bool, true, false, not, ◌&&◌, is_some, is_none, nat_eq, nat_lt, nat_le, if◌then◌else◌, Option, Some, None, List, [], ◌∷◌, ◌++◌, map}
+use Rattle.std.specs.Prelude.{ℕ, ◌^◌, Bool, true, false, ◌&&◌, is_some, is_none, nat_eq, nat_lt, nat_le, if◌then◌else◌, Option, Some, None, List, [], ◌∷◌, ◌++◌, map}
 use Rattle.sc_base.specs.declared.Place.{Place}
 use Rattle.sc_syntax.specs.declared.Width.{Width}
 use Rattle.sc_syntax.specs.declared.Name.{Name as NameAt}

@@ -1,10 +1,9 @@
 -- The widths in a typed tree fit.
-use Rattle.std.specs.Prelude.{◌≡◌, ℕ, ◌^◌, ◌<◌, ◌≤◌, slice_index, List, [], ◌∷◌, ◌++◌, length}
-use Rattle.sc_syntax.specs.declared.ShiftLink.{ShiftLink}
+use Rattle.std.specs.Prelude.{◌≡◌, ℕ, ◌<◌, ◌≤◌, slice_index, List, [], ◌∷◌, ◌++◌, length}
 use Rattle.sc_word.specs.declared.tree.TypedExpr.{TypedExpr}
 use Rattle.sc_word.specs.declared.tree.TypedNode.{TypedNode, Literal, Word, Not', Chain', Shift', Pick', Ext', Low', Row_of-TypedLink, end_of-TypedLink, more_of-TypedLink}
 use Rattle.sc_word.specs.Words.{IsWidth, AreWidths}
-use Rattle.sc_word.specs.Forms.{amount, op_width}
+use Rattle.sc_word.specs.Forms.{op_width}
 use Rattle.sc_word.specs.Typed.{IsLiteral, OpFits, TypedWords}
 
 -- a node of width w, where the words have these widths

@@ -1,5 +1,5 @@
 -- The width of a word expression, and which expressions are bare literals.
-use Rattle.std.specs.Prelude.{ℕ, unsigned_abs, Option, Some, None, List, [], ◌∷◌}
+use Rattle.std.specs.Prelude.{ℕ, unsigned_abs, List, [], ◌∷◌}
 use Rattle.sc_syntax.specs.declared.Width.{Width}
 use Rattle.sc_syntax.specs.declared.WordOp.{WordOp}
 use Rattle.sc_syntax.specs.declared.WordOp.TheVariants as op

@@ -1,8 +1,7 @@
 -- The typed tree of a word expression and of a classical function.
-use Rattle.std.specs.Prelude.{◌≡◌, ◌≢◌, ℕ, ◌^◌, ◌<◌, ◌≤◌, unsigned_abs, Option, Some, None, List, [], ◌∷◌, ◌++◌, map}
+use Rattle.std.specs.Prelude.{◌≡◌, ℕ, ◌^◌, ◌<◌, ◌≤◌, unsigned_abs, Some, List, [], ◌∷◌, ◌++◌, map}
 use Rattle.sc_syntax.specs.declared.WordOp.{WordOp}
 use Rattle.sc_syntax.specs.declared.WordOp.TheVariants as op
-use Rattle.sc_syntax.specs.declared.ShiftLink.{ShiftLink}
 use Rattle.sc_syntax.specs.declared.WordFn.{WordFn}
 use Rattle.sc_syntax.specs.declared.Bind.{Bind}
 use Rattle.sc_syntax.specs.declared.WordExpr.{WordExpr}
@@ -11,7 +10,7 @@ use Rattle.sc_syntax.specs.declared.WordNode.{WordNode, Row_of-WordLink, end_of-
 use Rattle.sc_word.specs.declared.operand.Form.TheVariants.{Bare, Wide}
 use Rattle.sc_word.specs.declared.tree.TypedExpr.{TypedExpr}
 use Rattle.sc_word.specs.declared.tree.TypedNode.{TypedNode, Literal, Word, Not', Chain', Shift', Pick', Ext', Low', Row_of-TypedLink, end_of-TypedLink, more_of-TypedLink}
-use Rattle.sc_word.specs.Words.{Words, Named, number_of, width_at, widths_of, IsWidth}
+use Rattle.sc_word.specs.Words.{Words, number_of, width_at, IsWidth}
 use Rattle.sc_word.specs.Forms.{amount, op_width, form_node}
 use Rattle.sc_word.specs.Checks.{param_word}
 

@@ -1,5 +1,5 @@
 -- The value of a word expression: a whole number modulo 2^w, by cases on the typed tree.
-use Rattle.std.specs.Prelude.{ℕ, zero, suc, ◌+◌, ◌-◌, ◌*◌, ◌/◌, ◌%◌, ◌^◌, Bool, true, false, nat_eq, nat_lt, bit_and, bit_or, bit_xor, if◌then◌else◌, List, [], ◌∷◌, ◌++◌, slice_index}
+use Rattle.std.specs.Prelude.{ℕ, zero, suc, ◌+◌, ◌-◌, ◌*◌, ◌/◌, ◌%◌, ◌^◌, ◌<◌, Bool, true, false, nat_eq, nat_lt, bit_and, bit_or, bit_xor, if◌then◌else◌, List, [], ◌∷◌, ◌++◌, slice_index}
 use Rattle.sc_syntax.specs.declared.WordOp.{WordOp}
 use Rattle.sc_syntax.specs.declared.WordOp.TheVariants as op
 use Rattle.sc_syntax.specs.declared.ShiftLink.{ShiftLink}
@@ -7,6 +7,7 @@ use Rattle.sc_word.specs.declared.tree.TypedExpr.{TypedExpr}
 use Rattle.sc_word.specs.declared.tree.TypedNode.{TypedNode, Literal, Word, Not', Chain', Shift', Pick', Ext', Low', Row_of-TypedLink, end_of-TypedLink, more_of-TypedLink}
 use Rattle.sc_word.specs.Forms.{amount, op_width}
 use Rattle.sc_word.specs.Typed.{TypedWords}
+use Rattle.sc_word.specs.Fits.{IsWellTyped}
 
 abbrev pub truth : Bool → ℕ
 truth true = 1
@@ -63,3 +64,13 @@ value_all values (b ∷ bs) e = value_all (values ++ value values b ∷ []) bs e
 -- the value of a function for values of its parameters
 abbrev pub fn_value : TypedWords → List ℕ → ℕ
 fn_value t inputs = value_all inputs t.binds t.returned
+
+-- values of these widths
+abbrev pub AreValues : List ℕ → List ℕ → Type 0
+AreValues [] [] = Unit {0}
+AreValues (v ∷ values) (w ∷ widths) = (v < 2 ^ w) × AreValues values widths
+AreValues _ _ = ⊥
+
+-- the value of a well typed function is a number of its width
+pub record ValuesFit : Type 0 where
+  pub fits : (t : TypedWords) (inputs : List ℕ) → IsWellTyped t → AreValues inputs t.params → fn_value t inputs < 2 ^ t.returned.width

@@ -1,5 +1,5 @@
 -- The words that are known at a place of a classical function.
-use Rattle.std.specs.Prelude.{Bool, map, ℕ, zero, suc, ◌≤◌, List, [], ◌∷◌, Option, Some, None, option_map, position}
+use Rattle.std.specs.Prelude.{Bool, map, ℕ, zero, suc, ◌≤◌, List, [], ◌∷◌, Option, Some, None, position}
 use Rattle.std.specs.declared.vec.Vec.{Vec}
 use Rattle.std.specs.declared.alloc.Global.{Global}
 use Rattle.sc_base.specs.Texts.{same}

@@ -47,7 +47,11 @@ pub(crate) fn op_width(op: WordOp, width: u32) -> u32
     }
 }
 
-fn pushed(mut links: Vec<TypedLink>, op: WordOp, right: TypedExpr) -> Result<Vec<TypedLink>, WordFault>
+fn pushed(
+    mut links: Vec<TypedLink>,
+    op: WordOp,
+    right: TypedExpr,
+) -> Result<Vec<TypedLink>, WordFault>
     ensures ok { IfOk result (λ r. r.items ≡ links.items ++ record { op = op; right = right } ∷ []) }
     ensures err { IfErr result (λ f. f ≡ WordFault.Memory) }
 {
@@ -58,7 +62,15 @@ fn pushed(mut links: Vec<TypedLink>, op: WordOp, right: TypedExpr) -> Result<Vec
 }
 
 /// The chain with one more operator. Its first token is at `at`, its first operand at `first_at`.
-pub(crate) fn joined(alloc: Global, chain: Chain, at: Place, first_at: Place, op: WordOp, right_at: Place, right: Operand) -> Result<Chain, WordFault>
+pub(crate) fn joined(
+    alloc: Global,
+    chain: Chain,
+    at: Place,
+    first_at: Place,
+    op: WordOp,
+    right_at: Place,
+    right: Operand,
+) -> Result<Chain, WordFault>
     ensures ok { IfOk result (IsJoined chain op right) }
     ensures none { OnOk result (first_fault (meet at first_at (chain_form chain) right_at (form_of right) ∷ op_fits at op (shared (chain_form chain) (form_of right)) ∷ []) ≡ None) }
     ensures err { IfErr result (λ f. f ≢ WordFault.Memory → first_fault (meet at first_at (chain_form chain) right_at (form_of right) ∷ op_fits at op (shared (chain_form chain) (form_of right)) ∷ []) ≡ Some f) }

@@ -5,7 +5,9 @@ ghost use Rattle.sc_word.specs.Checks.{first_fault, no_literal, shift_fits, bare
 ghost use Rattle.sc_word.specs.Operands.{form_of, IsNot, IsShift, IsPick, IsExt, IsLow};
 
 use crate::operand::{Operand, boxed, form_of, with_width};
-use crate::rules::{amount, ext_fits, low_fits, no_literal, own_width, pick_fits, shared, shifts_fit};
+use crate::rules::{
+    amount, ext_fits, low_fits, no_literal, own_width, pick_fits, shared, shifts_fit,
+};
 use crate::tree::{TypedExpr, TypedNode, WordFault};
 use sc_base::{List, Place};
 use sc_syntax::{ShiftLink, Width};
@@ -38,7 +40,12 @@ fn copied(alloc: Global, links: &List<ShiftLink>) -> Result<List<ShiftLink>, Wor
 }
 
 /// The operand at `at`, shifted.
-pub(crate) fn shifted(alloc: Global, at: Place, operand: Operand, links: &List<ShiftLink>) -> Result<Operand, WordFault>
+pub(crate) fn shifted(
+    alloc: Global,
+    at: Place,
+    operand: Operand,
+    links: &List<ShiftLink>,
+) -> Result<Operand, WordFault>
     ensures ok { IfOk result (IsShift operand links.now) }
     ensures none { OnOk result (first_fault (no_literal at (form_of operand) ∷ map shift_fits links.now) ≡ None) }
     ensures err { IfErr result (λ f. f ≢ WordFault.Memory → first_fault (no_literal at (form_of operand) ∷ map shift_fits links.now) ≡ Some f) }
@@ -56,7 +63,15 @@ pub(crate) fn shifted(alloc: Global, at: Place, operand: Operand, links: &List<S
 }
 
 /// `test ? yes : no`, each operand with its place.
-pub(crate) fn picked(alloc: Global, test_at: Place, test: Operand, yes_at: Place, yes: Operand, no_at: Place, no: Operand) -> Result<Operand, WordFault>
+pub(crate) fn picked(
+    alloc: Global,
+    test_at: Place,
+    test: Operand,
+    yes_at: Place,
+    yes: Operand,
+    no_at: Place,
+    no: Operand,
+) -> Result<Operand, WordFault>
     ensures ok { IfOk result (IsPick test yes no) }
     ensures none { OnOk result (first_fault (bare_test test_at (form_of test) ∷ meet test_at yes_at (form_of yes) no_at (form_of no) ∷ wide_test test_at (form_of test) ∷ []) ≡ None) }
     ensures err { IfErr result (λ f. f ≢ WordFault.Memory → first_fault (bare_test test_at (form_of test) ∷ meet test_at yes_at (form_of yes) no_at (form_of no) ∷ wide_test test_at (form_of test) ∷ []) ≡ Some f) }
@@ -94,7 +109,12 @@ fn widened(alloc: Global, operand: Operand, width: u32) -> Result<Operand, WordF
 }
 
 /// `ext` of the operand at `at`.
-pub(crate) fn extended(alloc: Global, at: Place, operand: Operand, width: Width) -> Result<Operand, WordFault>
+pub(crate) fn extended(
+    alloc: Global,
+    at: Place,
+    operand: Operand,
+    width: Width,
+) -> Result<Operand, WordFault>
     ensures ok { IfOk result (IsExt operand (stated width)) }
     ensures none { OnOk result (first_fault (ext_checks at (form_of operand) width) ≡ None) }
     ensures err { IfErr result (λ f. f ≢ WordFault.Memory → first_fault (ext_checks at (form_of operand) width) ≡ Some f) }
@@ -104,7 +124,12 @@ pub(crate) fn extended(alloc: Global, at: Place, operand: Operand, width: Width)
 }
 
 /// `low` of the operand at `at`.
-pub(crate) fn lowered(alloc: Global, at: Place, operand: Operand, width: Width) -> Result<Operand, WordFault>
+pub(crate) fn lowered(
+    alloc: Global,
+    at: Place,
+    operand: Operand,
+    width: Width,
+) -> Result<Operand, WordFault>
     ensures ok { IfOk result (IsLow operand (stated width)) }
     ensures none { OnOk result (first_fault (low_checks at (form_of operand) width) ≡ None) }
     ensures err { IfErr result (λ f. f ≢ WordFault.Memory → first_fault (low_checks at (form_of operand) width) ≡ Some f) }

@@ -90,7 +90,12 @@ fn bound(alloc: Global, words: &Words, value: &WordExpr) -> Result<TypedExpr, Wo
 }
 
 /// The returned expression, which has the width of the result.
-fn returned(alloc: Global, words: &Words, result_word: &WordExpr, width: u32) -> Result<TypedExpr, WordFault>
+pub(crate) fn returned(
+    alloc: Global,
+    words: &Words,
+    result_word: &WordExpr,
+    width: u32,
+) -> Result<TypedExpr, WordFault>
     requires scope { IsScope words.now }
     requires width { IsWidth width }
     ensures ok { IfOk result (Returned words.now result_word.now width) }
@@ -108,7 +113,13 @@ struct Body {
     returned: TypedExpr,
 }
 
-fn type_body(alloc: Global, words: Words, binds: &[Bind], result_word: &WordExpr, width: u32) -> Result<Body, WordFault>
+fn type_body(
+    alloc: Global,
+    words: Words,
+    binds: &[Bind],
+    result_word: &WordExpr,
+    width: u32,
+) -> Result<Body, WordFault>
     requires few { length words + length binds.now ≤ 8388608 }
     requires bounds { AreWidths (widths_of words) }
     requires width { IsWidth width }

@@ -4,6 +4,7 @@
 mod chain;
 mod form;
 mod function;
+mod laws;
 mod operand;
 mod rules;
 mod scratch;
@@ -13,5 +14,9 @@ mod walk;
 mod words;
 
 pub use function::typed;
+pub use laws::values_fit;
 pub use tree::{TypedExpr, TypedLink, TypedNode, WordFault};
 pub use typed_fn::TypedFn;
+
+#[cfg(test)]
+mod tests;

@@ -41,7 +41,13 @@ pub(crate) fn no_literal(at: Place, form: Form) -> Result<(), WordFault>
     }
 }
 
-pub(crate) fn meet(at: Place, left_at: Place, left: Form, right_at: Place, right: Form) -> Result<(), WordFault>
+pub(crate) fn meet(
+    at: Place,
+    left_at: Place,
+    left: Form,
+    right_at: Place,
+    right: Form,
+) -> Result<(), WordFault>
     ensures { result_err result ≡ first_fault (meet at left_at left right_at right ∷ []) }
 {
     match left {
@@ -84,7 +90,14 @@ pub(crate) fn op_fits(at: Place, op: WordOp, width: u32) -> Result<(), WordFault
 }
 
 /// The rules of an operator on what stands to its left and to its right.
-pub(crate) fn join_fits(at: Place, left_at: Place, left: Form, op: WordOp, right_at: Place, right: Form) -> Result<(), WordFault>
+pub(crate) fn join_fits(
+    at: Place,
+    left_at: Place,
+    left: Form,
+    op: WordOp,
+    right_at: Place,
+    right: Form,
+) -> Result<(), WordFault>
     ensures { result_err result ≡ first_fault (meet at left_at left right_at right ∷ op_fits at op (shared left right) ∷ []) }
 {
     meet(at, left_at, left, right_at, right)?;
@@ -101,7 +114,14 @@ pub(crate) fn shifts_fit(links: &[ShiftLink]) -> Result<(), WordFault>
 }
 
 /// The rules of `?:` on its three operands.
-pub(crate) fn pick_fits(test_at: Place, test: Form, yes_at: Place, yes: Form, no_at: Place, no: Form) -> Result<(), WordFault>
+pub(crate) fn pick_fits(
+    test_at: Place,
+    test: Form,
+    yes_at: Place,
+    yes: Form,
+    no_at: Place,
+    no: Form,
+) -> Result<(), WordFault>
     ensures { result_err result ≡ first_fault (bare_test test_at test ∷ meet test_at yes_at yes no_at no ∷ wide_test test_at test ∷ []) }
 {
     match test {

@@ -68,8 +68,12 @@ pub(crate) fn scratch_of(expr: &TypedExpr) -> u64
             }
             count
         }
-        TypedNode::Shift(inner, links) => scratch_of(inner) + of_shifts(links.as_slice(), expr.width),
-        TypedNode::Pick(test, one, other) => scratch_of(test) + scratch_of(one) + scratch_of(other) + (wires + wires),
+        TypedNode::Shift(inner, links) => scratch_of(inner)
+            + of_shifts(links.as_slice(), expr.width),
+        TypedNode::Pick(test, one, other) => scratch_of(test)
+            + scratch_of(one)
+            + scratch_of(other)
+            + (wires + wires),
         TypedNode::Ext(inner) => scratch_of(inner) + wires.saturating_sub(u64::from(inner.width)),
         TypedNode::Low(inner) => scratch_of(inner),
     }

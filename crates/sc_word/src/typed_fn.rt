@@ -31,7 +31,12 @@ impl Model for TypedFn {
 }
 
 impl TypedFn {
-    pub(crate) fn new(params: Vec<u32>, binds: Vec<TypedExpr>, returned: TypedExpr, scratch: u64) -> TypedFn
+    pub(crate) fn new(
+        params: Vec<u32>,
+        binds: Vec<TypedExpr>,
+        returned: TypedExpr,
+        scratch: u64,
+    ) -> TypedFn
         requires { Rattle.sc_word.specs.Functions.IsCounted (typed_words params.items binds.items returned) scratch }
         ensures { result ≡ typed_words params.items binds.items returned }
     {
@@ -52,7 +57,7 @@ impl TypedFn {
 
     /// The width of parameter `i`, from 0; `None` exactly where there is no such parameter.
     pub fn param_width(&self, i: u32) -> Option<u32>
-        ensures { result ≡ slice_get self.now.params i }
+        ensures width { result ≡ slice_get self.now.params i }
     {
         self.params.get(i as usize).copied()
     }
@@ -80,7 +85,7 @@ impl TypedFn {
 
     /// The expression of binding `i`, from 0; `None` exactly where there is no such binding.
     pub fn bind(&self, i: u32) -> Option<&TypedExpr>
-        ensures { option_copied result ≡ slice_get self.now.binds i }
+        ensures expression { option_copied result ≡ slice_get self.now.binds i }
     {
         self.binds.get(i as usize)
     }

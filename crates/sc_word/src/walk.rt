@@ -45,7 +45,15 @@ pub(crate) fn walk(alloc: Global, words: &Words, expr: &WordExpr) -> Result<Oper
             let mut chain = Chain::Start(walk(alloc, words, first)?);
             for link in links {
                 let right = walk(alloc, words, &link.right)?;
-                chain = joined(alloc, chain, expr.place, first.place, link.op, link.right.place, right)?;
+                chain = joined(
+                    alloc,
+                    chain,
+                    expr.place,
+                    first.place,
+                    link.op,
+                    link.right.place,
+                    right,
+                )?;
             }
             finished(alloc, first.place, chain)
         }
@@ -57,7 +65,9 @@ pub(crate) fn walk(alloc: Global, words: &Words, expr: &WordExpr) -> Result<Oper
             let test_word = walk(alloc, words, test)?;
             let yes_word = walk(alloc, words, yes)?;
             let no_word = walk(alloc, words, no)?;
-            picked(alloc, test.place, test_word, yes.place, yes_word, no.place, no_word)
+            picked(
+                alloc, test.place, test_word, yes.place, yes_word, no.place, no_word,
+            )
         }
         WordNode::Ext(inner, width) => {
             let operand = walk(alloc, words, inner)?;

@@ -1,4 +1,4 @@
-use Rattle.std.proofs.Common.{◌≡◌, [], map, take, drop}
+use Rattle.std.proofs.Common.{take, drop}
 use Rattle.sc_word.specs.Operands.{Declaring}
 use Rattle.sc_word.proofs.function.declare_params.Given as goal
 

@@ -1,8 +1,8 @@
-use Rattle.std.proofs.Common.{◌≡◌, [], ◌∷◌, None, sym, ap, ◌∙◌, subst}
+use Rattle.std.proofs.Common.{◌≡◌, [], ◌∷◌, None, sym, subst}
 use Rattle.sc_word.specs.declared.operand.Form.{Form}
 use Rattle.sc_word.specs.declared.tree.TypedExpr.{TypedExpr}
 use Rattle.sc_word.specs.Checks.{first_fault, result_fits}
-use Rattle.sc_word.specs.Operands.{Returned, form_of}
+use Rattle.sc_word.specs.Operands.{Returned}
 use Rattle.sc_word.proofs.Bodying.{returned_word}
 use Rattle.sc_word.proofs.function.returned.Goals as goal
 
@@ -12,5 +12,5 @@ returns-clause-ok c =
     let e = c.args.result_word.now in
     let o = c.in_ok-operand.operand in
     subst (λ (t : TypedExpr). Returned ws e c.args.width t) (sym c.with_width.ensures)
-      (returned_word ws e o c.args.width c.requires.width c.in_ok-operand.ensures.ok
-        (subst (λ (f : Form). first_fault (result_fits e.place f c.args.width ∷ []) ≡ None) c.form_of.ensures (sym c.in_ok-result_fits.ensures)))
+    (returned_word ws e o c.args.width c.requires.width c.in_ok-operand.ensures.ok
+    (subst (λ (f : Form). first_fault (result_fits e.place f c.args.width ∷ []) ≡ None) c.form_of.ensures (sym c.in_ok-result_fits.ensures)))

@@ -1,17 +1,16 @@
-use Rattle.std.proofs.Common.{◌≡◌, ℕ, ◌+◌, ◌<◌, ◌≤◌, List, [], ◌∷◌, length, map, sum_by, Option, None, Some, sym, ap, ◌∙◌, subst, arith}
+use Rattle.std.proofs.Common.{◌≡◌, ℕ, ◌+◌, List, [], length, map, sum_by, sym, ap, ◌∙◌, subst, arith}
 use Rattle.std.proofs.lemmas.Result.{err_from_is_err_and}
 use Rattle.std.proofs.lemmas.List.{length-map}
 use Rattle.sc_syntax.specs.declared.Bind.{Bind}
 use Rattle.sc_syntax.specs.declared.WordParam.{WordParam}
 use Rattle.sc_word.specs.declared.tree.TypedExpr.{TypedExpr}
-use Rattle.sc_word.specs.declared.tree.WordFault.{WordFault}
 use Rattle.sc_word.specs.Words.{Words, IsWidth, AreWidths, widths_of}
 use Rattle.sc_word.specs.Forms.{amount}
-use Rattle.sc_word.specs.Checks.{first_fault, in_bounds, checks_params, param_word, fault}
+use Rattle.sc_word.specs.Checks.{first_fault, checks_params, param_word}
 use Rattle.sc_word.specs.Typed.{TypesBinds}
 use Rattle.sc_word.specs.Fits.{TypedAll}
 use Rattle.sc_word.specs.Scratch.{scratch}
-use Rattle.sc_word.specs.Operands.{or_else, fault_binds}
+use Rattle.sc_word.specs.Operands.{fault_binds}
 use Rattle.sc_word.proofs.Operating.{neither, first_stands, second_stands}
 use Rattle.sc_word.proofs.Faulting.{fault_of_fn}
 use Rattle.sc_word.proofs.Fitting.{typed_all, param_widths, binds_length}
@@ -22,28 +21,28 @@ use Rattle.sc_word.proofs.function.typed.Goals as goal
 pub returns-in_err-declared-clause-fault : goal.returns-in_err-declared-clause-fault
 returns-in_err-declared-clause-fault c =
     exit _ _ _ (err_from_is_err_and c.from_residual.result c.from_residual.ensures.1)
-      (λ free. fault_of_fn c.args.f.now ∙ first_stands _ _
-        (ap (λ (ps : List WordParam). first_fault (checks_params [] ps)) (sym c.as_slice.ensures) ∙ c.in_err-declared.ensures.err free))
+    (λ free. fault_of_fn c.args.f.now ∙ first_stands _ _
+    (ap (λ (ps : List WordParam). first_fault (checks_params [] ps)) (sym c.as_slice.ensures) ∙ c.in_err-declared.ensures.err free))
 
 pub returns-in_err-width-clause-fault : goal.returns-in_err-width-clause-fault
 returns-in_err-width-clause-fault c =
     exit _ _ _ (err_from_is_err_and c.from_residual-in_err-width.result c.from_residual-in_err-width.ensures.1)
-      (λ free. fault_of_fn c.args.f.now ∙ second_stands _ _
-        (ap (λ (ps : List WordParam). first_fault (checks_params [] ps)) (sym c.as_slice.ensures) ∙ c.in_ok-declared.ensures.none)
-        (first_stands _ _ (sym c.in_err-width.ensures.fault)))
+    (λ free. fault_of_fn c.args.f.now ∙ second_stands _ _
+    (ap (λ (ps : List WordParam). first_fault (checks_params [] ps)) (sym c.as_slice.ensures) ∙ c.in_ok-declared.ensures.none)
+    (first_stands _ _ (sym c.in_err-width.ensures.fault)))
 
 pub returns-in_err-body-clause-fault : goal.returns-in_err-body-clause-fault
 returns-in_err-body-clause-fault c =
     let f = c.args.f.now in
     let words : c.in_ok-declared.declared.words ≡ map param_word f.params = c.in_ok-declared.ensures.words ∙ ap (map param_word) c.as_slice.ensures in
     exit _ _ _ (err_from_is_err_and c.from_residual-in_err-body.result c.from_residual-in_err-body.ensures.1)
-      (λ free. fault_of_fn f ∙ second_stands _ _
-        (ap (λ (ps : List WordParam). first_fault (checks_params [] ps)) (sym c.as_slice.ensures) ∙ c.in_ok-declared.ensures.none)
-        (second_stands _ _ (sym c.in_ok-width.ensures.fault)
-          (ap (λ (ws : Words). fault_binds ws f.binds f.result (amount f.width)) (sym words)
-          ∙ ap (λ (bs : List Bind). fault_binds c.in_ok-declared.declared.words bs f.result (amount f.width)) (sym c.as_slice-2.ensures)
-          ∙ ap (fault_binds c.in_ok-declared.declared.words c.as_slice-2.result.now f.result) (sym c.in_ok-width.ensures.ok)
-          ∙ c.in_err-body.ensures.err free)))
+    (λ free. fault_of_fn f ∙ second_stands _ _
+    (ap (λ (ps : List WordParam). first_fault (checks_params [] ps)) (sym c.as_slice.ensures) ∙ c.in_ok-declared.ensures.none)
+    (second_stands _ _ (sym c.in_ok-width.ensures.fault)
+    (ap (λ (ws : Words). fault_binds ws f.binds f.result (amount f.width)) (sym words)
+    ∙ ap (λ (bs : List Bind). fault_binds c.in_ok-declared.declared.words bs f.result (amount f.width)) (sym c.as_slice-2.ensures)
+    ∙ ap (fault_binds c.in_ok-declared.declared.words c.as_slice-2.result.now f.result) (sym c.in_ok-width.ensures.ok)
+    ∙ c.in_err-body.ensures.err free)))
 
 pub total_scratch-scratch-requires : goal.total_scratch-scratch-requires
 total_scratch-scratch-requires c =
@@ -79,9 +78,9 @@ returns-clause-none c =
     let f = c.args.f.now in
     let words : c.in_ok-declared.declared.words ≡ map param_word f.params = c.in_ok-declared.ensures.words ∙ ap (map param_word) c.as_slice.ensures in
     fault_of_fn f ∙ neither
-      (ap (λ (ps : List WordParam). first_fault (checks_params [] ps)) (sym c.as_slice.ensures) ∙ c.in_ok-declared.ensures.none)
-      (neither (sym c.in_ok-width.ensures.fault)
-        (ap (λ (ws : Words). fault_binds ws f.binds f.result (amount f.width)) (sym words)
-        ∙ ap (λ (bs : List Bind). fault_binds c.in_ok-declared.declared.words bs f.result (amount f.width)) (sym c.as_slice-2.ensures)
-        ∙ ap (fault_binds c.in_ok-declared.declared.words c.as_slice-2.result.now f.result) (sym c.in_ok-width.ensures.ok)
-        ∙ c.in_ok-body.ensures.none))
+    (ap (λ (ps : List WordParam). first_fault (checks_params [] ps)) (sym c.as_slice.ensures) ∙ c.in_ok-declared.ensures.none)
+    (neither (sym c.in_ok-width.ensures.fault)
+    (ap (λ (ws : Words). fault_binds ws f.binds f.result (amount f.width)) (sym words)
+    ∙ ap (λ (bs : List Bind). fault_binds c.in_ok-declared.declared.words bs f.result (amount f.width)) (sym c.as_slice-2.ensures)
+    ∙ ap (fault_binds c.in_ok-declared.declared.words c.as_slice-2.result.now f.result) (sym c.in_ok-width.ensures.ok)
+    ∙ c.in_ok-body.ensures.none))

@@ -1,4 +1,4 @@
-use Rattle.std.proofs.Common.{◌≡◌, ℕ, zero, suc, ◌<◌, ◌≤◌, ◌/◌, ◌*◌, ◌^◌, sym, ◌∙◌, eq-eqb, arith}
+use Rattle.std.proofs.Common.{◌<◌, ◌/◌, ◌*◌, ◌^◌, sym, ◌∙◌, eq-eqb, arith}
 use Rattle.std.proofs.Math.Nat.{div-lt_iff_lt-mul}
 use Rattle.std.proofs.Math.Pow.{pow_mono}
 use Rattle.std.proofs.lemmas.Nat.{pow_pos}
@@ -15,5 +15,7 @@ returns-else-width-ge64 c =
     let v = c.args.value in
     let q = 2 ^ c.args.width in
     let both = div-lt_iff_lt-mul {k = q} {x = v} {y = 1} (pow_pos c.args.width) in
-    ltb_from_iff (λ e. (let below : v / q < 1 = omega (arith, eqb-true (v / q) 0 e) in let h : v < 1 * q = both.0 below in omega arith),
-      λ h. (let wide : v < 1 * q = omega arith in let small : v / q < 1 = both.1 wide in eq-eqb (v / q) 0 (omega arith)))
+    ltb_from_iff (
+      λ e. (let below : v / q < 1 = omega (arith, eqb-true (v / q) 0 e) in let h : v < 1 * q = both.0 below in omega arith),
+      λ h. (let wide : v < 1 * q = omega arith in let small : v / q < 1 = both.1 wide in eq-eqb (v / q) 0 (omega arith)),
+    )

@@ -1,4 +1,4 @@
-use Rattle.std.proofs.Common.{◌≡◌, ℕ, ◌+◌, List, sym, ap, ◌∙◌}
+use Rattle.std.proofs.Common.{ℕ, ◌+◌, List, sym, ap, ◌∙◌}
 use Rattle.sc_word.specs.declared.tree.TypedExpr.{TypedExpr}
 use Rattle.sc_word.specs.declared.tree.TypedLink.{TypedLink}
 use Rattle.sc_word.specs.declared.tree.TypedNode.{TypedNode}

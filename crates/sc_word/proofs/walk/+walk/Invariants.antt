@@ -1,4 +1,4 @@
-use Rattle.std.proofs.Common.{◌≡◌, take, drop}
+use Rattle.std.proofs.Common.{take, drop}
 use Rattle.sc_word.specs.Operands.{Chained}
 use Rattle.sc_word.proofs.walk.+walk.Given as goal
 

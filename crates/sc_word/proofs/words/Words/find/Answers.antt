@@ -1,4 +1,4 @@
-use Rattle.std.proofs.Common.{◌≡◌, List, ℕ, nat_eq, sym, ap, ◌∙◌}
+use Rattle.std.proofs.Common.{List, ℕ, nat_eq, ap, ◌∙◌}
 use Rattle.std.specs.Prelude.{position, option_map}
 use Rattle.std.specs.Map.{keys_of}
 use Rattle.std.specs.declared.vec.Vec.{Vec}

@@ -1,0 +1,51 @@
+-- Declarations of numbers and wires, and what a name means at a place.
+use Rattle.std.specs.Prelude.{ℕ, ◌≡◌, Bool, true, false, not, ◌&&◌, nat_eq, is_some, if◌then◌else◌, Option, Some, None, option_map, List, [], ◌∷◌, ◌++◌, reverse, find, codes}
+use Rattle.std.specs.List.{list_any}
+use Rattle.sc_base.specs.Texts.{same}
+use Rattle.sc_base.specs.declared.Place.{Place}
+use Rattle.sc_syntax.specs.declared.Kind.{Kind}
+use Rattle.sc_syntax.specs.declared.Kind.TheVariants.{Number}
+use Rattle.sc_syntax.specs.declared.NumSort.TheVariants.{Int, Double}
+use Rattle.sc_syntax.specs.declared.Name.{Name}
+use Rattle.sc_syntax.specs.Kind.{Kinds}
+use Rattle.sc_types.specs.declared.fault.TypeFault.TheVariants.{Redefined}
+use Rattle.sc_types.specs.Checks.{Check, check}
+
+-- a scope by the way to it from the module's own: the numbers of the statements, and of their parts, that it lies in
+abbrev pub Scope : Type 0
+Scope = List ℕ
+
+abbrev pub is_prefix : List ℕ → List ℕ → Bool
+is_prefix [] path = true
+is_prefix (a ∷ way) [] = false
+is_prefix (a ∷ way) (b ∷ rest) = nat_eq a b && is_prefix way rest
+
+pub record Declaration : Type 0 where
+  pub name : List ℕ
+  pub kind : Kind
+  pub scope : Scope
+
+-- the declaration is of this name, and its scope holds the place
+abbrev pub is_seen : Scope → List ℕ → Declaration → Bool
+is_seen place name d = same name d.name && is_prefix d.scope place
+
+-- a name means its last declaration whose scope holds the place
+abbrev pub declared_kind : List Declaration → Scope → List ℕ → Option Kind
+declared_kind before place name = option_map (λ d. d.kind) (find (is_seen place name) (reverse before))
+
+abbrev pub is_pi : List ℕ → Bool
+is_pi name = same name (codes "M_PI")
+
+-- outside every scope `M_PI` is a double
+abbrev pub or_pi : List ℕ → Option Kind → Option Kind
+or_pi name (Some kind) = Some kind
+or_pi name None = if is_pi name then Some (Number Double) else None
+
+-- what a name stands for
+abbrev pub kinds : List Declaration → Scope → Kinds
+kinds before place name = or_pi name (declared_kind before place name)
+
+-- no declaration of the name stands in the scope itself
+abbrev pub is_new : List Declaration → Scope → Name → Check
+is_new before scope name =
+    check (not (list_any (λ d. same name.text d.name && same scope d.scope) before)) (Redefined name.place)

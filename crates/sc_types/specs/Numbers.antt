@@ -1,0 +1,64 @@
+-- The checks of an expression where a number is needed: the operands from left to right, then the operator.
+use Rattle.std.specs.Prelude.{ℕ, Bool, true, false, is_some, Option, Some, None, List, [], ◌∷◌, ◌++◌}
+use Rattle.sc_base.specs.declared.Place.{Place}
+use Rattle.sc_base.specs.declared.Class.TheVariants.{Q, C}
+use Rattle.sc_syntax.specs.declared.Kind.{Kind}
+use Rattle.sc_syntax.specs.declared.Kind.TheVariants.{Number, One, Many}
+use Rattle.sc_syntax.specs.declared.BinOp.{BinOp}
+use Rattle.sc_syntax.specs.declared.NumSort.{NumSort}
+use Rattle.sc_syntax.specs.declared.NumSort.TheVariants as num
+use Rattle.sc_syntax.specs.declared.Expr.{Expr}
+use Rattle.sc_syntax.specs.declared.Node.{Node, Int, Decimal, Name, Index', Paren', Unary', Chain', Pick', Row_of-Link, end_of-Link, more_of-Link}
+use Rattle.sc_syntax.specs.Kind.{Kinds, ◌>>=◌, kind_of_operation, kind_of_node, kind_of_expr}
+use Rattle.sc_types.specs.declared.fault.TypeFault.TheVariants.{UnknownName, WrongKind, MeasuredUse}
+use Rattle.sc_types.specs.Checks.{Check, check}
+
+-- a name stands for a number
+abbrev pub is_number : Place → Option Kind → Check
+is_number at None = check false (UnknownName at)
+is_number at (Some (Number sort)) = check true (WrongKind at)
+is_number at (Some (One C)) = check false (MeasuredUse at)
+is_number at (Some (Many C)) = check false (MeasuredUse at)
+is_number at (Some (One Q)) = check false (WrongKind at)
+is_number at (Some (Many Q)) = check false (WrongKind at)
+
+-- an indexed name is no number
+abbrev pub is_indexed : Place → Option Kind → Check
+is_indexed at None = check false (UnknownName at)
+is_indexed at (Some (One C)) = check false (MeasuredUse at)
+is_indexed at (Some (Many C)) = check false (MeasuredUse at)
+is_indexed at (Some _) = check false (WrongKind at)
+
+-- `%`, `<<` and `>>` are for ints alone
+abbrev pub may_operate : Place → BinOp → Option NumSort → Option NumSort → Check
+may_operate at o a b = check (is_some (a >>= λ x. b >>= kind_of_operation o x)) (WrongKind at)
+
+abbrev mutual
+  pub number_node : Kinds → Place → Node → List Check
+  number_node ks at (Int n) = []
+  number_node ks at (Decimal d) = []
+  number_node ks at (Name t) = is_number at (ks t) ∷ []
+  number_node ks at (Index' t b p n) = is_indexed at (ks t) ∷ []
+  number_node ks at (Paren' b p n) = number_node ks p n
+  number_node ks at (Unary' o b p n) = number_node ks p n
+  number_node ks at (Chain' b p n shape row) = number_node ks p n ++ number_row ks (kind_of_node ks n) row
+  number_node ks at (Pick' b1 p1 n1 b2 p2 n2 b3 p3 n3) = number_node ks p1 n1 ++ (number_node ks p2 n2 ++ number_node ks p3 n3)
+
+  -- a chain is grouped from the left; a is the kind of what stands to the left
+  pub number_row : {m : _} → Kinds → Option NumSort → Row_of-Link m → List Check
+  number_row ks a end_of-Link = []
+  number_row ks a (more_of-Link o at p n rest) =
+      number_node ks p n ++ may_operate at o a (kind_of_node ks n)
+      ∷ number_row ks (a >>= λ x. kind_of_node ks n >>= kind_of_operation o x) rest
+
+-- a number of either kind: a condition, or where a double is needed
+abbrev pub number_checks : Kinds → Expr → List Check
+number_checks ks e = number_node ks e.place e.node
+
+abbrev pub is_int : Option NumSort → Bool
+is_int (Some num.Int) = true
+is_int _ = false
+
+-- an int
+abbrev pub int_checks : Kinds → Expr → List Check
+int_checks ks e = number_checks ks e ++ check (is_int (kind_of_expr ks e)) (WrongKind e.place) ∷ []

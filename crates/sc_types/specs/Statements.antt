@@ -1,0 +1,196 @@
+-- The checks of statements, in the order of the walk, and the declarations that they make.
+use Rattle.std.specs.Prelude.{ℕ, zero, suc, ◌+◌, Bool, true, false, nat_eq, if◌then◌else◌, Option, Some, None, List, [], ◌∷◌, ◌++◌, length, map, find, replicate}
+use Rattle.sc_base.specs.Texts.{same}
+use Rattle.sc_base.specs.declared.Place.{Place}
+use Rattle.sc_base.specs.declared.Class.{Class}
+use Rattle.sc_base.specs.declared.Class.TheVariants.{Q, C}
+use Rattle.sc_syntax.specs.declared.Kind.{Kind}
+use Rattle.sc_syntax.specs.declared.Kind.TheVariants as kind
+use Rattle.sc_syntax.specs.declared.NumSort.{NumSort}
+use Rattle.sc_syntax.specs.declared.NumSort.TheVariants as num
+use Rattle.sc_syntax.specs.declared.BinOp.{BinOp}
+use Rattle.sc_syntax.specs.declared.BinOp.TheVariants as op
+use Rattle.sc_syntax.specs.declared.SetOp.{SetOp}
+use Rattle.sc_syntax.specs.declared.SetOp.TheVariants as set
+use Rattle.sc_syntax.specs.declared.Expr.{Expr}
+use Rattle.sc_syntax.specs.declared.Decl.{Decl}
+use Rattle.sc_syntax.specs.declared.Init.{Init}
+use Rattle.sc_syntax.specs.declared.Set.{Set as SetOf}
+use Rattle.sc_syntax.specs.declared.Measure.{Measure as MeasureOf}
+use Rattle.sc_syntax.specs.declared.Call.{Call as CallOf}
+use Rattle.sc_syntax.specs.declared.Callee.{Callee}
+use Rattle.sc_syntax.specs.declared.Callee.TheVariants.{Gate, Named}
+use Rattle.sc_syntax.specs.declared.Act.{Act, Wires, Numbers, Set, Measure, Call, If', While', For', Block', Empty, Held-Act-If-2, None', Some', Row_of-Stmt, end_of-Stmt, more_of-Stmt}
+use Rattle.sc_syntax.specs.declared.Part.{Part}
+use Rattle.sc_syntax.specs.declared.Part.TheVariants as part
+use Rattle.sc_syntax.specs.declared.Param.{Param}
+use Rattle.sc_syntax.specs.declared.Sort.{Sort}
+use Rattle.sc_syntax.specs.declared.Sort.TheVariants as sort
+use Rattle.sc_syntax.specs.Kind.{Kinds, ◌>>=◌, kind_of_expr, kind_of_operation}
+use Rattle.sc_types.specs.declared.fault.TypeFault.TheVariants.{UnknownName, WrongKind, WrongCount}
+use Rattle.sc_types.specs.Checks.{Check, check}
+use Rattle.sc_types.specs.Declarations.{Declaration, Scope, kinds, declared_kind, is_pi, is_new}
+use Rattle.sc_types.specs.Numbers.{number_checks, int_checks, is_int, may_operate}
+use Rattle.sc_types.specs.declared.want.Want.{Want}
+use Rattle.sc_types.specs.declared.want.Want.TheVariants.{OneWire, ManyWires, Word, AnInt, ADouble}
+use Rattle.sc_types.specs.Wires.{operand_checks, arguments_checks, gate_wants}
+
+-- checks in order, and the declarations made on the way
+pub record Walk : Type 0 where
+  pub checks : List Check
+  pub declares : List Declaration
+
+abbrev pub only : List Check → Walk
+only checks = record { checks = checks; declares = [] }
+
+-- one after the other: the second knows what the first declares
+abbrev pub in_turn : List Declaration → Walk → (List Declaration → Walk) → Walk
+in_turn before a b =
+    let rest : Walk = b (before ++ a.declares) in
+    record { checks = a.checks ++ rest.checks; declares = a.declares ++ rest.declares }
+
+-- ---- declarations: the size or start, and then the name, which is known from there on
+
+abbrev pub optional : (Expr → List Check) → Option Expr → List Check
+optional checks None = []
+optional checks (Some e) = checks e
+
+abbrev pub wire_kind : Class → Option Expr → Kind
+wire_kind c None = kind.One c
+wire_kind c (Some e) = kind.Many c
+
+abbrev pub walk_decl : List Declaration → Scope → Class → Decl → Walk
+walk_decl before scope c d = record {
+  checks = optional (int_checks (kinds before scope)) d.size ++ is_new before scope d.name ∷ [];
+  declares = record { name = d.name.text; kind = wire_kind c d.size; scope = scope } ∷ []
+}
+
+-- the start of an `int` is an int, that of a double any number
+abbrev pub start_checks : Kinds → NumSort → Expr → List Check
+start_checks ks num.Int e = int_checks ks e
+start_checks ks num.Double e = number_checks ks e
+
+abbrev pub walk_init : List Declaration → Scope → NumSort → Init → Walk
+walk_init before scope s d = record {
+  checks = optional (start_checks (kinds before scope) s) d.start ++ is_new before scope d.name ∷ [];
+  declares = record { name = d.name.text; kind = kind.Number s; scope = scope } ∷ []
+}
+
+abbrev pub walk_decls : List Declaration → Scope → Class → List Decl → Walk
+walk_decls before scope c [] = only []
+walk_decls before scope c (d ∷ ds) = in_turn before (walk_decl before scope c d) (λ known. walk_decls known scope c ds)
+
+abbrev pub walk_inits : List Declaration → Scope → NumSort → List Init → Walk
+walk_inits before scope s [] = only []
+walk_inits before scope s (d ∷ ds) = in_turn before (walk_init before scope s d) (λ known. walk_inits known scope s ds)
+
+-- ---- a `Set`: the name and that it may be set, then the expression, then that the kinds fit
+
+-- a wire is not set by a number, and `M_PI` is not set where no scope declares it
+abbrev pub may_set : Place → Bool → Option Kind → Check
+may_set at pi None = if pi then check false (WrongKind at) else check false (UnknownName at)
+may_set at pi (Some (kind.Number s)) = check true (WrongKind at)
+may_set at pi (Some _) = check false (WrongKind at)
+
+abbrev pub number_of : Option Kind → Option NumSort
+number_of (Some (kind.Number s)) = Some s
+number_of _ = None
+
+-- no double goes into an int
+abbrev pub goes_into : Option NumSort → Option NumSort → Bool
+goes_into (Some num.Int) (Some num.Double) = false
+goes_into _ _ = true
+
+-- `x op= e` is `x = x op e`, where the operator stands at the mark
+abbrev pub set_by : SetOp → Option BinOp
+set_by set.Add = Some op.Add
+set_by set.Sub = Some op.Sub
+set_by set.Mul = Some op.Mul
+set_by set.Div = Some op.Div
+set_by set.Rem = Some op.Rem
+set_by _ = None
+
+abbrev pub fit_checks : Place → Place → Option NumSort → Option BinOp → Option NumSort → List Check
+fit_checks name mark x None e = check (goes_into x e) (WrongKind name) ∷ []
+fit_checks name mark x (Some o) e =
+    may_operate mark o x e ∷ check (goes_into x (x >>= λ a. e >>= kind_of_operation o a)) (WrongKind name) ∷ []
+
+abbrev pub set_checks : List Declaration → Scope → SetOf → List Check
+set_checks before scope s =
+    may_set s.name.place (is_pi s.name.text) (declared_kind before scope s.name.text)
+    ∷ optional (λ e. number_checks (kinds before scope) e
+      ++ fit_checks s.name.place s.place (number_of (declared_kind before scope s.name.text)) (set_by s.op) (kind_of_expr (kinds before scope) e)) s.value
+
+-- the left side with its index, and then the measured operand
+abbrev pub measure_checks : Kinds → MeasureOf → List Check
+measure_checks ks m = operand_checks ks (OneWire C) m.into ++ operand_checks ks (OneWire Q) m.from
+
+-- ---- a call: the name, then the number of arguments, then the arguments from left to right
+
+abbrev pub part_name : Part → List ℕ
+part_name (part.Module m) = m.name.text
+part_name (part.Words f) = f.name.text
+
+-- a called name means the first definition of that name in the source
+abbrev pub definition : List Part → List ℕ → Option Part
+definition parts name = find (λ p. same name (part_name p)) parts
+
+abbrev pub param_want : Sort → Want
+param_want (sort.One c) = OneWire c
+param_want (sort.Many c e) = ManyWires c
+param_want sort.Int = AnInt
+param_want sort.Double = ADouble
+
+-- a classical function takes its words, and then its output
+abbrev pub part_wants : Part → List Want
+part_wants (part.Module m) = map (λ p. param_want p.sort) m.params
+part_wants (part.Words f) = replicate (length f.params + 1) Word
+
+abbrev pub applied : Kinds → Place → List Want → List Expr → List Check
+applied ks at wants args = check (nat_eq (length args) (length wants)) (WrongCount at) ∷ arguments_checks ks wants args
+
+abbrev pub called : Kinds → Place → Option Part → List Expr → List Check
+called ks at None args = check false (UnknownName at) ∷ []
+called ks at (Some p) args = applied ks at (part_wants p) args
+
+abbrev pub call_checks : List Part → Kinds → CallOf → List Check
+call_checks parts ks c = by_callee c.callee
+  where
+    by_callee : Callee → List Check
+    by_callee (Gate g) = applied ks c.place (gate_wants g (length c.args)) c.args
+    by_callee (Named t) = called ks c.place (definition parts t) c.args
+
+-- ---- statements; `scope` is the scope that they stand in, and `own` a scope for the statement's own parts
+
+abbrev mutual
+  pub walk_act : List Part → List Declaration → Scope → Scope → Act → Walk
+  walk_act parts before scope own (Wires c ds) = walk_decls before scope c ds
+  walk_act parts before scope own (Numbers s ds) = walk_inits before scope s ds
+  walk_act parts before scope own (Set s) = only (set_checks before scope s)
+  walk_act parts before scope own (Measure m) = only (measure_checks (kinds before scope) m)
+  walk_act parts before scope own (Call c) = only (call_checks parts (kinds before scope) c)
+  -- a body has a scope of its own, also where it is one declaration
+  walk_act parts before scope own (If' e b p act other) =
+      in_turn before (only (number_checks (kinds before scope) e)) (λ known.
+      in_turn known (walk_act parts known (own ++ 0 ∷ []) (own ++ 0 ∷ 0 ∷ []) act) (λ known.
+      walk_held parts known (own ++ 1 ∷ []) (own ++ 1 ∷ 0 ∷ []) other))
+  walk_act parts before scope own (While' e b p act) =
+      in_turn before (only (number_checks (kinds before scope) e)) (λ known. walk_act parts known (own ++ 0 ∷ []) (own ++ 0 ∷ 0 ∷ []) act)
+  -- the start declares in the scope of the `for`; the advance stands before the body
+  walk_act parts before scope own (For' start test advance b p act) =
+      in_turn before (walk_held parts before own (own ++ 0 ∷ []) start) (λ known.
+      in_turn known (only (optional (number_checks (kinds known own)) test)) (λ known.
+      in_turn known (walk_held parts known own (own ++ 1 ∷ []) advance) (λ known.
+      walk_act parts known (own ++ 2 ∷ []) (own ++ 2 ∷ 0 ∷ []) act)))
+  walk_act parts before scope own (Block' shape row) = walk_row parts before own 0 row
+  walk_act parts before scope own Empty = only []
+
+  pub walk_held : List Part → List Declaration → Scope → Scope → Held-Act-If-2 → Walk
+  walk_held parts before scope own None' = only []
+  walk_held parts before scope own (Some' b p act) = walk_act parts before scope own act
+
+  -- statements from the i-th on
+  pub walk_row : {m : _} → List Part → List Declaration → Scope → ℕ → Row_of-Stmt m → Walk
+  walk_row parts before scope i end_of-Stmt = only []
+  walk_row parts before scope i (more_of-Stmt place act rest) =
+      in_turn before (walk_act parts before scope (scope ++ i ∷ []) act) (λ known. walk_row parts known scope (suc i) rest)

@@ -1,0 +1,20 @@
+//! Why a source is not well typed.
+use sc_base::Place;
+
+/// Why a source is refused, and where.
+#[derive(Clone, Copy, Debug, PartialEq, Eq)]
+pub enum TypeFault {
+    /// A name is in no scope, or a called name is no module and no classical function.
+    UnknownName(Place),
+    /// A name is declared a second time in its scope, or a module or function name a second time.
+    Redefined(Place),
+    WrongKind(Place),
+    /// A call has another number of arguments than what it calls has parameters.
+    WrongCount(Place),
+    /// A classical bit stands where a number is needed.
+    MeasuredUse(Place),
+    BadWidth(Place),
+    /// There is no module `main` without parameters.
+    NoMain,
+    Memory,
+}

@@ -1,0 +1,48 @@
+//! What an argument is to be.
+ghost use Rattle.std.specs.Prelude.{◌≡◌};
+ghost use Rattle.sc_types.specs.Wires.{same_class as same, suits as suited, suits_indexed as suited_indexed};
+
+use sc_base::Class;
+use sc_syntax::Kind;
+
+#[derive(Clone, Copy, Debug, PartialEq, Eq)]
+pub(crate) enum Want {
+    OneWire(Class),
+    ManyWires(Class),
+    /// A qubit array or one qubit, for a word of a classical function.
+    Word,
+    AnInt,
+    ADouble,
+}
+
+fn same_class(a: Class, b: Class) -> bool
+    ensures { result ≡ same a b }
+{
+    match (a, b) {
+        (Class::Q, Class::Q) | (Class::C, Class::C) => true,
+        _ => false,
+    }
+}
+
+/// Whether a name of this kind, without an index, is what is wanted.
+pub(crate) fn suits(want: Want, kind: Kind) -> bool
+    ensures { result ≡ suited want kind }
+{
+    match (want, kind) {
+        (Want::OneWire(class), Kind::One(other)) => same_class(class, other),
+        (Want::ManyWires(class), Kind::Many(other)) => same_class(class, other),
+        (Want::Word, Kind::One(other) | Kind::Many(other)) => same_class(Class::Q, other),
+        _ => false,
+    }
+}
+
+/// Whether one element of a name of this kind is what is wanted.
+pub(crate) fn suits_indexed(want: Want, kind: Kind) -> bool
+    ensures { result ≡ suited_indexed want kind }
+{
+    match (want, kind) {
+        (Want::OneWire(class), Kind::Many(other)) => same_class(class, other),
+        (Want::Word, Kind::Many(other)) => same_class(Class::Q, other),
+        _ => false,
+    }
+}
