@@ -48,7 +48,7 @@ fn shows(
 const BELL: &str = "int main() { qbit q[2]; H(q[0]); CNOT(q[0],q[1]); return 0; }\n";
 
 /// Sources of the first form, and their flat texts.
-const WRITTEN: [(&str, &str); 3] = [
+const WRITTEN: [(&str, &str); 4] = [
     (
         BELL,
         "flat 1\nqbits 2\ncbits 0\ngates 2\nH q0\nCNOT q0,q1\n",
@@ -57,6 +57,10 @@ const WRITTEN: [(&str, &str); 3] = [
     (
         "int main(){qbit a[1];qbit b[2];CNOT(b[1],a[0]);Tdag(b[0]);}",
         "flat 1\nqbits 3\ncbits 0\ngates 2\nCNOT q2,q0\nTdag q1\n",
+    ),
+    (
+        "#define N 2 // the length\nint main() { qbit a[N]; /* flip */ X(a[1]); }\n",
+        "flat 1\nqbits 2\ncbits 0\ngates 1\nX q1\n",
     ),
 ];
 
@@ -93,6 +97,36 @@ fn other_sources_are_unbuilt(rt: HostRuntime) -> Result<(), Fail> {
         )?;
     }
     Ok(())
+}
+
+/// Sources whose tokens have a fault, with the fault's line.
+const MISTAKEN: [(&str, &str); 4] = [
+    ("int main() { /* x", "scaff: 1:14: OpenComment\n"),
+    ("int main() { int x = 12ab; }\n", "scaff: 1:22: BadNumber\n"),
+    ("int main() { }\n  @\n", "scaff: 2:3: BadByte\n"),
+    ("#define N (1\nint main() { }\n", "scaff: 1:1: BadDefine\n"),
+];
+
+#[test]
+fn the_first_fault_of_the_tokens_is_told(rt: HostRuntime) -> Result<(), Fail> {
+    for (source, line) in MISTAKEN {
+        shows(&rt, rt.alloc(), source.as_bytes(), b"", line.as_bytes(), 1)?;
+    }
+    Ok(())
+}
+
+#[test]
+fn a_source_has_at_most_4194304_tokens(rt: HostRuntime) -> Result<(), Fail> {
+    let alloc = rt.alloc();
+    let marks = vec![in alloc; b';'; 4_194_305]?;
+    shows(
+        &rt,
+        alloc,
+        &marks,
+        b"",
+        b"scaff: 1:4194305: TooManyTokens\n",
+        5,
+    )
 }
 
 #[test]
