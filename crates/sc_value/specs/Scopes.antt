@@ -5,9 +5,10 @@ use Rattle.std.specs.Ordering.{nat_cmp}
 use Rattle.std.specs.Cmp.Lexicographic.{slice_cmp}
 use Rattle.std.specs.FinMap.{FinMap, get, insert, contains_key}
 use Rattle.std.specs.Str.{bytes_eq}
+use Rattle.sc_syntax.specs.Kind.{Kinds}
 use Rattle.sc_value.specs.declared.Value.{Value}
 use Rattle.sc_value.specs.Numbers.{fixed}
-use Rattle.sc_value.specs.Expressions.{Values, sort_of}
+use Rattle.sc_value.specs.Expressions.{Values, sort_of, kinds_of}
 
 -- the values of the names that one scope declares
 abbrev pub Scope : Type 0
@@ -29,6 +30,10 @@ constant name = if bytes_eq name (codes "M_PI") then Some (fixed (pos 3141592653
 -- the value of a name: that of the innermost scope that declares it, else the constant
 abbrev pub value_of_name : Scopes → Values
 value_of_name scopes name = option_or (declared_value scopes name) (constant name)
+
+-- the kind of each name
+abbrev pub kinds_in : Scopes → Kinds
+kinds_in scopes = kinds_of (value_of_name scopes)
 
 -- a name declared in the innermost scope; where that scope has the name, its value is replaced
 abbrev pub with_declared : Scopes → List ℕ → Value → Scopes

@@ -2,8 +2,8 @@
 ghost use Rattle.std.specs.Prelude.{◌≡◌, Some, IfOk};
 ghost use Rattle.sc_syntax.specs.Formed.{IsFormedExpr};
 ghost use Rattle.sc_syntax.specs.Kind.{IsNumber, kind_of_expr};
-ghost use Rattle.sc_value.specs.Expressions.{sort_of, kinds_of, value_of_expr};
-ghost use Rattle.sc_value.specs.Scopes.{value_of_name};
+ghost use Rattle.sc_value.specs.Expressions.{sort_of, value_of_expr};
+ghost use Rattle.sc_value.specs.Scopes.{value_of_name, kinds_in};
 
 use crate::numbers::{apply, beside, is_true, truth, unary};
 use crate::{Env, EvalFault, Value};
@@ -21,7 +21,7 @@ impl Value {
 }
 
 fn kind_of(expr: &Expr, env: &Env) -> Option<NumSort>
-    ensures { result ≡ kind_of_expr (kinds_of (value_of_name env.now)) expr.now }
+    ensures { result ≡ kind_of_expr (kinds_in env.now) expr.now }
 {
     match &expr.node {
         Node::Int(_) => Some(NumSort::Int),
@@ -50,9 +50,9 @@ fn kind_of(expr: &Expr, env: &Env) -> Option<NumSort>
 /// `?:` stands at the branch's first token. Takes no memory. Recursion goes as deep as the expression nests.
 pub fn eval(expr: &Expr, env: &Env) -> Result<Value, EvalFault>
     requires formed { IsFormedExpr expr.now }
-    requires typed { IsNumber (kinds_of (value_of_name env.now)) expr.now }
+    requires typed { IsNumber (kinds_in env.now) expr.now }
     ensures value { result ≡ value_of_expr (value_of_name env.now) expr.now }
-    ensures kind { IfOk result (λ v. kind_of_expr (kinds_of (value_of_name env.now)) expr.now ≡ Some (sort_of v)) }
+    ensures kind { IfOk result (λ v. kind_of_expr (kinds_in env.now) expr.now ≡ Some (sort_of v)) }
 {
     evaluate(expr, env)
 }
