@@ -8,6 +8,8 @@ mod order;
 mod plan;
 mod round;
 mod taking;
+#[cfg(test)]
+mod tests;
 mod text;
 mod tray;
 mod wires;
