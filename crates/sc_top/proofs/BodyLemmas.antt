@@ -1,5 +1,5 @@
 -- The parts of a body, one after another.
-use Rattle.std.proofs.Common.{◌≡◌, ◌≢◌, ℕ, ℤ, Bool, true, false, List, [], ◌∷◌, ◌++◌, ◌+◌, ◌<◌, length, length-append, arith, Option, None, Some, refl, ap, ap₂, sym, ◌∙◌, subst, append_assoc}
+use Rattle.std.proofs.Common.{◌≡◌, ◌≢◌, ℕ, ℤ, Bool, true, false, List, [], ◌∷◌, ◌++◌, ◌+◌, ◌<◌, length, length-append, arith, None, Some, refl, ap, ap₂, sym, ◌∙◌, append_assoc}
 use Rattle.std.specs.List.{flat_map}
 use Rattle.std.proofs.lemmas.List.{length-map}
 use Rattle.std.specs.Prelude.{option_and_then}
@@ -10,9 +10,8 @@ use Rattle.sc_syntax.specs.declared.Token.{Token}
 use Rattle.sc_syntax.specs.declared.Mark.{Mark}
 use Rattle.sc_syntax.specs.declared.Mark.TheVariants as mark
 use Rattle.sc_syntax.specs.declared.Word.{Word}
-use Rattle.sc_syntax.specs.declared.Word.TheVariants as word
 use Rattle.sc_top.specs.First.{Made, nothing_made, after, after_all, IsFirstForm}
-use Rattle.sc_top.specs.Lexemes.{Element, Part, declares, applies, applies_two, closed_lexemes, single_lexemes, pair_lexemes, part_lexemes, lexeme, lexemes, plain, opening, closing, leaving, ending}
+use Rattle.sc_top.specs.Lexemes.{Element, Part, declares, applies, applies_two, closed_lexemes, part_lexemes, lexeme, lexemes, plain, opening, ending}
 
 abbrev Lexed : Type 0
 Lexed = TokenSort × List ℕ

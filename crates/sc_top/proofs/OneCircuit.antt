@@ -1,5 +1,5 @@
 -- A source of the first form makes one thing.
-use Rattle.std.proofs.Common.{◌≡◌, ℕ, Bool, List, [], ◌∷◌, ◌++◌, Option, None, Some, Result, Ok, refl, ap, sym, ◌∙◌, subst, append_assoc}
+use Rattle.std.proofs.Common.{◌≡◌, ℕ, Bool, List, [], ◌∷◌, ◌++◌, None, Some, Result, Ok, refl, sym, ◌∙◌, subst, append_assoc}
 use Rattle.std.specs.List.{flat_map}
 use Rattle.std.specs.Prelude.{option_and_then}
 use Rattle.sc_syntax.proofs.Once.{once}
@@ -10,7 +10,7 @@ use Rattle.sc_syntax.specs.declared.TokenSort.{TokenSort}
 use Rattle.sc_top.specs.Answers.{IsFirstSource}
 use Rattle.sc_top.specs.First.{Made, nothing_made, after, after_all, IsFirstForm}
 use Rattle.sc_top.specs.Lexemes.{Part, part_lexemes, lexemes, ending}
-use Rattle.sc_top.proofs.BodyLemmas.{Body, body_less, body_ended, first_body, ending_no_part}
+use Rattle.sc_top.proofs.BodyLemmas.{Body, body_less, first_body, ending_no_part}
 
 same_made : {a b : Made} → Some a ≡ Some b → a ≡ b
 same_made {a} {b} is = cc

@@ -1,6 +1,5 @@
 -- Why a request is refused.
 use Rattle.std.proofs.Common.{◌≡◌, ℕ, ◌≤◌, ◌≢◌, length, List, [], Option, Some, Result, Ok, Err, None, refl, ap, sym, ◌∙◌, subst, arith}
-use Rattle.sc_base.specs.Causes.{Rose, Stood}
 use Rattle.sc_syntax.proofs.Once.{once}
 use Rattle.sc_syntax.specs.Directives.{no_names}
 use Rattle.sc_syntax.specs.Lexing.{IsLexed, HasFault}

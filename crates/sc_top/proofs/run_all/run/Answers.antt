@@ -1,5 +1,4 @@
-use Rattle.std.proofs.Common.{◌≡◌, List, ℕ, IsTrue, map, refl, ap, inr, sym, ◌∙◌, arith}
-use Rattle.std.specs.Prelude.{None}
+use Rattle.std.proofs.Common.{IsTrue, map, refl, ap, inr, sym, ◌∙◌, arith}
 use Rattle.std.specs.Rc.{rc_str_bytes}
 use Rattle.sc_base.specs.Causes.{Rose}
 use Rattle.sc_top.specs.Fault.{status_of}
