@@ -1,7 +1,7 @@
 #!/usr/bin/env python3
-"""Times `flat` on a source of the first form of 16 MiB or less.
+"""Times `flat` on sources of the first form: a quarter, a half and all of the size, by default 16 MiB.
 
-usage: bench/first_form.py [MIB]      the source's size, by default 15 and half of it
+usage: bench/first_form.py [MIB]
 Prints the time beside that of `cat` of the output, and the peak memory.
 """
 import resource, subprocess, sys, tempfile, time
@@ -12,7 +12,7 @@ program = top / 'crates/scaff/out/scaff'
 
 
 def source(size):
-    """A main that takes all gates that fit in the size and in the limit on tokens."""
+    """A main of all gates that fit in the size and in the limit on tokens, with spaces for the rest of the size."""
     head, tail = 'int main() { qbit q[1000];\n', '}\n'
     lines, used, i, tokens = [], len(head) + len(tail), 0, 20
     while tokens + 13 < 4194304:
@@ -23,11 +23,12 @@ def source(size):
         used += len(line)
         tokens += 13 if line[0] == 'C' else 8
         i += 1
-    return head + ''.join(lines) + tail
+    gap = ' ' * ((size - used) // max(1, len(lines)))
+    return head + ''.join(line[:-1] + gap + '\n' for line in lines) + tail
 
 
 def main():
-    most = float(sys.argv[1]) if len(sys.argv) > 1 else 15.0
+    most = float(sys.argv[1]) if len(sys.argv) > 1 else 16.0
     for mib in (most / 4, most / 2, most):
         with tempfile.TemporaryDirectory() as folder:
             path, out = Path(folder) / 'a.scf', Path(folder) / 'out'
