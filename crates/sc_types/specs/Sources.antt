@@ -60,7 +60,7 @@ walk_params before [] = only []
 walk_params before (p ∷ ps) =
     in_turn before (record {
       checks = length_checks (length_kinds before ps) p.sort ++ is_new before [] p.name ∷ [];
-      declares = record { name = p.name.text; kind = param_kind p.sort; scope = [] } ∷ []
+      declares = record { name = p.name.text; kind = param_kind p.sort; scope = [] } ∷ [];
     }) (λ known. walk_params known ps)
 
 -- the statements of a body from the i-th on, in the scope of the parameters

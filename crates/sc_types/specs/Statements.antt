@@ -62,7 +62,7 @@ wire_kind c (Some e) = kind.Many c
 abbrev pub walk_decl : List Declaration → Scope → Class → Decl → Walk
 walk_decl before scope c d = record {
   checks = optional (int_checks (kinds before scope)) d.size ++ is_new before scope d.name ∷ [];
-  declares = record { name = d.name.text; kind = wire_kind c d.size; scope = scope } ∷ []
+  declares = record { name = d.name.text; kind = wire_kind c d.size; scope = scope } ∷ [];
 }
 
 -- the start of an `int` is an int, that of a double any number
@@ -73,7 +73,7 @@ start_checks ks num.Double e = number_checks ks e
 abbrev pub walk_init : List Declaration → Scope → NumSort → Init → Walk
 walk_init before scope s d = record {
   checks = optional (start_checks (kinds before scope) s) d.start ++ is_new before scope d.name ∷ [];
-  declares = record { name = d.name.text; kind = kind.Number s; scope = scope } ∷ []
+  declares = record { name = d.name.text; kind = kind.Number s; scope = scope } ∷ [];
 }
 
 abbrev pub walk_decls : List Declaration → Scope → Class → List Decl → Walk
@@ -119,7 +119,7 @@ abbrev pub set_checks : List Declaration → Scope → SetOf → List Check
 set_checks before scope s =
     may_set s.name.place (is_pi s.name.text) (declared_kind before scope s.name.text)
     ∷ optional (λ e. number_checks (kinds before scope) e
-      ++ fit_checks s.name.place s.place (number_of (declared_kind before scope s.name.text)) (set_by s.op) (kind_of_expr (kinds before scope) e)) s.value
+    ++ fit_checks s.name.place s.place (number_of (declared_kind before scope s.name.text)) (set_by s.op) (kind_of_expr (kinds before scope) e)) s.value
 
 -- the left side with its index, and then the measured operand
 abbrev pub measure_checks : Kinds → MeasureOf → List Check
