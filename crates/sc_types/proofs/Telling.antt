@@ -1,12 +1,11 @@
 -- The kind and the fault of an expression are those of its checks.
-use Rattle.std.proofs.Common.{◌≡◌, ℕ, Bool, true, false, if◌then◌else◌, List, [], ◌∷◌, ◌++◌, Option, Some, None, Result, Ok, Err, refl, sym, ap, ◌∙◌, subst}
+use Rattle.std.proofs.Common.{◌≡◌, Bool, true, false, if◌then◌else◌, List, [], ◌∷◌, ◌++◌, Option, Some, None, Result, Ok, Err, refl, sym, ap, ◌∙◌, subst}
 use Rattle.std.specs.Prelude.{is_some, IfOk}
 use Rattle.std.specs.Result.{result_err}
 use Rattle.sc_base.specs.declared.Place.{Place}
 use Rattle.sc_base.specs.declared.Class.TheVariants.{Q, C}
 use Rattle.sc_syntax.specs.declared.Kind.{Kind}
 use Rattle.sc_syntax.specs.declared.Kind.TheVariants as kind
-use Rattle.sc_syntax.specs.declared.BinOp.{BinOp}
 use Rattle.sc_syntax.specs.declared.NumSort.{NumSort}
 use Rattle.sc_syntax.specs.declared.NumSort.TheVariants as num
 use Rattle.sc_syntax.specs.declared.Expr.{Expr}
@@ -20,7 +19,7 @@ use Rattle.sc_syntax.specs.Kind.{Kinds, wider, number_kind, kind_of_operation, k
 use Rattle.sc_types.specs.declared.fault.TypeFault.{TypeFault}
 use Rattle.sc_types.specs.declared.fault.TypeFault.TheVariants.{WrongKind}
 use Rattle.sc_types.specs.Checks.{Check, check, first_fault}
-use Rattle.sc_types.specs.Numbers.{is_number, is_indexed, may_operate, number_node, number_row, number_checks, is_int, int_checks}
+use Rattle.sc_types.specs.Numbers.{is_number, is_indexed, number_node, number_row, number_checks, is_int, int_checks}
 use Rattle.sc_types.specs.Sorts.{◌>>=◌, sort_of_name, fault_of_indexed, or_wrong, or_not_int, sort_of_node, sort_of_row, sort_of_links, sort_of, int_of}
 
 -- the first of two faults, where there is one

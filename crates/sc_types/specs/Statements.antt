@@ -1,5 +1,5 @@
 -- The checks of statements, in the order of the walk, and the declarations that they make.
-use Rattle.std.specs.Prelude.{ℕ, zero, suc, ◌+◌, Bool, true, false, nat_eq, if◌then◌else◌, Option, Some, None, List, [], ◌∷◌, ◌++◌, length, map, find, replicate}
+use Rattle.std.specs.Prelude.{ℕ, suc, ◌+◌, Bool, true, false, nat_eq, if◌then◌else◌, Option, Some, None, List, [], ◌∷◌, ◌++◌, length, map, find, replicate}
 use Rattle.sc_base.specs.Texts.{same}
 use Rattle.sc_base.specs.declared.Place.{Place}
 use Rattle.sc_base.specs.declared.Class.{Class}
@@ -23,14 +23,13 @@ use Rattle.sc_syntax.specs.declared.Callee.TheVariants.{Gate, Named}
 use Rattle.sc_syntax.specs.declared.Act.{Act, Wires, Numbers, Set, Measure, Call, If', While', For', Block', Empty, Held-Act-If-2, None', Some', Row_of-Stmt, end_of-Stmt, more_of-Stmt}
 use Rattle.sc_syntax.specs.declared.Part.{Part}
 use Rattle.sc_syntax.specs.declared.Part.TheVariants as part
-use Rattle.sc_syntax.specs.declared.Param.{Param}
 use Rattle.sc_syntax.specs.declared.Sort.{Sort}
 use Rattle.sc_syntax.specs.declared.Sort.TheVariants as sort
 use Rattle.sc_syntax.specs.Kind.{Kinds, ◌>>=◌, kind_of_expr, kind_of_operation}
 use Rattle.sc_types.specs.declared.fault.TypeFault.TheVariants.{UnknownName, WrongKind, WrongCount}
 use Rattle.sc_types.specs.Checks.{Check, check}
 use Rattle.sc_types.specs.Declarations.{Declaration, Scope, kinds, declared_kind, is_pi, is_new}
-use Rattle.sc_types.specs.Numbers.{number_checks, int_checks, is_int, may_operate}
+use Rattle.sc_types.specs.Numbers.{number_checks, int_checks, may_operate}
 use Rattle.sc_types.specs.declared.want.Want.{Want}
 use Rattle.sc_types.specs.declared.want.Want.TheVariants.{OneWire, ManyWires, Word, AnInt, ADouble}
 use Rattle.sc_types.specs.Wires.{operand_checks, arguments_checks, gate_wants}
