@@ -1,12 +1,11 @@
 -- The kind and the fault of an expression are those of its checks.
-use Rattle.std.proofs.Common.{◌≡◌, ℕ, Bool, true, false, if◌then◌else◌, List, [], ◌∷◌, ◌++◌, Option, Some, None, Result, Ok, Err, refl, sym, ap, ◌∙◌, subst}
+use Rattle.std.proofs.Common.{◌≡◌, Bool, true, false, if◌then◌else◌, List, [], ◌∷◌, ◌++◌, Option, Some, None, Result, Ok, Err, refl, sym, ap, ◌∙◌, subst}
 use Rattle.std.specs.Prelude.{is_some, IfOk}
 use Rattle.std.specs.Result.{result_err}
 use Rattle.sc_base.specs.declared.Place.{Place}
 use Rattle.sc_base.specs.declared.Class.TheVariants.{Q, C}
 use Rattle.sc_syntax.specs.declared.Kind.{Kind}
 use Rattle.sc_syntax.specs.declared.Kind.TheVariants as kind
-use Rattle.sc_syntax.specs.declared.BinOp.{BinOp}
 use Rattle.sc_syntax.specs.declared.NumSort.{NumSort}
 use Rattle.sc_syntax.specs.declared.NumSort.TheVariants as num
 use Rattle.sc_syntax.specs.declared.Expr.{Expr}
@@ -20,7 +19,7 @@ use Rattle.sc_syntax.specs.Kind.{Kinds, wider, number_kind, kind_of_operation, k
 use Rattle.sc_types.specs.declared.fault.TypeFault.{TypeFault}
 use Rattle.sc_types.specs.declared.fault.TypeFault.TheVariants.{WrongKind}
 use Rattle.sc_types.specs.Checks.{Check, check, first_fault}
-use Rattle.sc_types.specs.Numbers.{is_number, is_indexed, may_operate, number_node, number_row, number_checks, is_int, int_checks}
+use Rattle.sc_types.specs.Numbers.{is_number, is_indexed, number_node, number_row, number_checks, is_int, int_checks}
 use Rattle.sc_types.specs.Sorts.{◌>>=◌, sort_of_name, fault_of_indexed, or_wrong, or_not_int, sort_of_node, sort_of_row, sort_of_links, sort_of, int_of}
 
 -- the first of two faults, where there is one
@@ -46,7 +45,7 @@ tells_more : (r : Result NumSort TypeFault) (cs : List Check) (k : Option NumSor
     → Tells r cs k → ((a : NumSort) → Tells (go a) (ds (Some a)) (next a)) → Tells (r >>= go) (cs ++ ds k) (k =>> next)
 tells_more (Ok a) cs k go ds next h g =
     subst (λ (j : Option NumSort). Tells (go a) (cs ++ ds j) (j =>> next)) (sym h.1)
-      (tells_after (go a) cs (ds (Some a)) (next a) h.0 (g a))
+    (tells_after (go a) cs (ds (Some a)) (next a) h.0 (g a))
   where
     tells_after : (r : Result NumSort TypeFault) (cs ds : List Check) (k : Option NumSort) → first_fault cs ≡ None → Tells r ds k → Tells r (cs ++ ds) k
     tells_after (Ok s) cs ds k n t = (first_fault-append cs ds ∙ ap (λ (x : Option TypeFault). or_else x (first_fault ds)) n ∙ t.0, t.1)
@@ -95,27 +94,29 @@ mutual
       tells_more (sort_of_node ks p n) (number_node ks p n) (kind_of_node ks n) (sort_of_row ks row) (λ k. number_row ks k row) (kind_of_row ks row) (tells_node ks p n) (λ a. tells_row ks row a)
   tells_node ks at (Pick' b1 p1 n1 b2 p2 n2 b3 p3 n3) =
       tells_more (sort_of_node ks p1 n1) (number_node ks p1 n1) (kind_of_node ks n1)
-        (λ test. sort_of_node ks p2 n2 >>= λ a. sort_of_node ks p3 n3 >>= λ b. Ok (wider a b)) (λ k. number_node ks p2 n2 ++ number_node ks p3 n3)
-        (λ test. kind_of_node ks n2 =>> λ a. kind_of_node ks n3 =>> λ b. Some (wider a b)) (tells_node ks p1 n1)
-        (λ test. tells_more (sort_of_node ks p2 n2) (number_node ks p2 n2) (kind_of_node ks n2)
-          (λ a. sort_of_node ks p3 n3 >>= λ b. Ok (wider a b)) (λ k. number_node ks p3 n3) (λ a. kind_of_node ks n3 =>> λ b. Some (wider a b)) (tells_node ks p2 n2)
-          (λ a. tells_map (sort_of_node ks p3 n3) (number_node ks p3 n3) (kind_of_node ks n3) (wider a) (tells_node ks p3 n3)))
+      (λ test. sort_of_node ks p2 n2 >>= λ a. sort_of_node ks p3 n3 >>= λ b. Ok (wider a b)) (λ k. number_node ks p2 n2 ++ number_node ks p3 n3)
+      (λ test. kind_of_node ks n2 =>> λ a. kind_of_node ks n3 =>> λ b. Some (wider a b)) (tells_node ks p1 n1)
+      (λ test. tells_more (sort_of_node ks p2 n2) (number_node ks p2 n2) (kind_of_node ks n2)
+      (λ a. sort_of_node ks p3 n3 >>= λ b. Ok (wider a b)) (λ k. number_node ks p3 n3) (λ a. kind_of_node ks n3 =>> λ b. Some (wider a b)) (tells_node ks p2 n2)
+      (λ a. tells_map (sort_of_node ks p3 n3) (number_node ks p3 n3) (kind_of_node ks n3) (wider a) (tells_node ks p3 n3)))
 
   tells_row : {m : _} (ks : Kinds) (row : Row_of-Link m) (a : NumSort) → Tells (sort_of_row ks row a) (number_row ks (Some a) row) (kind_of_row ks row a)
   tells_row ks end_of-Link a = (refl, refl)
   tells_row ks (more_of-Link o at p n rest) a =
       tells_more (sort_of_node ks p n) (number_node ks p n) (kind_of_node ks n)
-        (λ b. or_wrong at (kind_of_operation o a b) >>= sort_of_row ks rest)
-        (λ k. check (is_some (k =>> kind_of_operation o a)) (WrongKind at) ∷ number_row ks (k =>> kind_of_operation o a) rest)
-        (λ b. kind_of_operation o a b =>> kind_of_row ks rest) (tells_node ks p n)
-        (λ b. tells_operated at (kind_of_operation o a b) (number_row ks (kind_of_operation o a b) rest) (sort_of_row ks rest) (kind_of_row ks rest)
-          (λ s e. subst (λ (k : Option NumSort). Tells (sort_of_row ks rest s) (number_row ks k rest) (kind_of_row ks rest s)) (sym e) (tells_row ks rest s)))
+      (λ b. or_wrong at (kind_of_operation o a b) >>= sort_of_row ks rest)
+      (λ k. check (is_some (k =>> kind_of_operation o a)) (WrongKind at) ∷ number_row ks (k =>> kind_of_operation o a) rest)
+      (λ b. kind_of_operation o a b =>> kind_of_row ks rest) (tells_node ks p n)
+      (λ b. tells_operated at (kind_of_operation o a b) (number_row ks (kind_of_operation o a b) rest) (sort_of_row ks rest) (kind_of_row ks rest)
+      (λ s e. subst (λ (k : Option NumSort). Tells (sort_of_row ks rest s) (number_row ks k rest) (kind_of_row ks rest s)) (sym e) (tells_row ks rest s)))
 
 tells_int_by : (ks : Kinds) (e : Expr) (r : Result NumSort TypeFault) → Tells r (number_checks ks e) (kind_of_expr ks e) → Tells (r >>= or_not_int e.place) (int_checks ks e) (kind_of_expr ks e)
-tells_int_by ks e (Ok num.Int) h =
-    (first_fault-append (number_checks ks e) (check (is_int (kind_of_expr ks e)) (WrongKind e.place) ∷ [])
+tells_int_by ks e (Ok num.Int) h = (
+  first_fault-append (number_checks ks e) (check (is_int (kind_of_expr ks e)) (WrongKind e.place) ∷ [])
       ∙ ap (λ (x : Option TypeFault). or_else x (first_fault (check (is_int (kind_of_expr ks e)) (WrongKind e.place) ∷ []))) h.0
-      ∙ ap (λ (k : Option NumSort). first_fault (check (is_int k) (WrongKind e.place) ∷ [])) h.1, h.1)
+      ∙ ap (λ (k : Option NumSort). first_fault (check (is_int k) (WrongKind e.place) ∷ [])) h.1,
+  h.1,
+)
 tells_int_by ks e (Ok num.Double) h =
     first_fault-append (number_checks ks e) (check (is_int (kind_of_expr ks e)) (WrongKind e.place) ∷ [])
     ∙ ap (λ (x : Option TypeFault). or_else x (first_fault (check (is_int (kind_of_expr ks e)) (WrongKind e.place) ∷ []))) h.0
@@ -129,7 +130,6 @@ tells_int ks e = tells_int_by ks e (sort_of ks e) (tells_node ks e.place e.node)
 
 -- ---- chains as lists
 
-
 bind_same : (r : Result NumSort TypeFault) (f g : NumSort → Result NumSort TypeFault) → ((a : NumSort) → f a ≡ g a) → (r >>= f) ≡ (r >>= g)
 bind_same (Ok a) f g h = h a
 bind_same (Err e) f g h = refl
@@ -138,12 +138,12 @@ sort_of_row_links : {m : _} (ks : Kinds) (row : Row_of-Link m) (a : NumSort) →
 sort_of_row_links ks end_of-Link a = refl
 sort_of_row_links ks (more_of-Link o at p n rest) a =
     bind_same (sort_of_node ks p n) (λ b. or_wrong at (kind_of_operation o a b) >>= sort_of_row ks rest) (λ b. or_wrong at (kind_of_operation o a b) >>= sort_of_links ks (items-the_row-Link _ rest))
-      (λ b. bind_same (or_wrong at (kind_of_operation o a b)) (sort_of_row ks rest) (sort_of_links ks (items-the_row-Link _ rest)) (λ s. sort_of_row_links ks rest s))
+    (λ b. bind_same (or_wrong at (kind_of_operation o a b)) (sort_of_row ks rest) (sort_of_links ks (items-the_row-Link _ rest)) (λ s. sort_of_row_links ks rest s))
 
 pub sort_of_chain : (ks : Kinds) (at : Place) (first : Box Expr Global) (links : Vec Link Global) → sort_of_node ks at (Chain first links) ≡ (sort_of ks first.value >>= sort_of_links ks links.items)
 sort_of_chain ks at first links =
     bind_same (sort_of ks first.value) (sort_of_row ks (links_of (Chain first links)).1) (sort_of_links ks links.items)
-      (λ a. over_links (λ m row. sort_of_row ks row a) (λ ls. sort_of_links ks ls a) (λ m row. sort_of_row_links ks row a) first links)
+    (λ a. over_links (λ m row. sort_of_row ks row a) (λ ls. sort_of_links ks ls a) (λ m row. sort_of_row_links ks row a) first links)
 
 -- ---- the two clauses of a call
 

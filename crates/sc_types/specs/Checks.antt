@@ -1,6 +1,5 @@
 -- Checks and the first fault.
 use Rattle.std.specs.Prelude.{Bool, if◌then◌else◌, Option, Some, None, List, [], ◌∷◌}
-use Rattle.sc_base.specs.declared.Place.{Place}
 use Rattle.sc_types.specs.declared.fault.TypeFault.{TypeFault}
 
 -- a check, and the fault where it does not pass

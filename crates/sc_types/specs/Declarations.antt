@@ -1,11 +1,10 @@
 -- Declarations of numbers and wires, and what a name means at a place.
-use Rattle.std.specs.Prelude.{ℕ, ◌≡◌, Bool, true, false, not, ◌&&◌, nat_eq, is_some, if◌then◌else◌, Option, Some, None, option_map, List, [], ◌∷◌, ◌++◌, reverse, find, codes}
+use Rattle.std.specs.Prelude.{ℕ, Bool, true, false, not, ◌&&◌, nat_eq, if◌then◌else◌, Option, Some, None, option_map, List, [], ◌∷◌, reverse, find, codes}
 use Rattle.std.specs.List.{list_any}
 use Rattle.sc_base.specs.Texts.{same}
-use Rattle.sc_base.specs.declared.Place.{Place}
 use Rattle.sc_syntax.specs.declared.Kind.{Kind}
 use Rattle.sc_syntax.specs.declared.Kind.TheVariants.{Number}
-use Rattle.sc_syntax.specs.declared.NumSort.TheVariants.{Int, Double}
+use Rattle.sc_syntax.specs.declared.NumSort.TheVariants.{Double}
 use Rattle.sc_syntax.specs.declared.Name.{Name}
 use Rattle.sc_syntax.specs.Kind.{Kinds}
 use Rattle.sc_types.specs.declared.fault.TypeFault.TheVariants.{Redefined}

@@ -1,11 +1,9 @@
 -- The kind of an expression, or its first fault: what the functions of this crate promise one another.
-use Rattle.std.specs.Prelude.{◌≡◌, ℕ, Option, Some, None, List, [], ◌∷◌, Result, Ok, Err}
+use Rattle.std.specs.Prelude.{Option, Some, None, List, [], ◌∷◌, Result, Ok, Err}
 use Rattle.sc_base.specs.declared.Place.{Place}
 use Rattle.sc_base.specs.declared.Class.TheVariants.{Q, C}
 use Rattle.sc_syntax.specs.declared.Kind.{Kind}
 use Rattle.sc_syntax.specs.declared.Kind.TheVariants as kind
-use Rattle.sc_syntax.specs.declared.BinOp.{BinOp}
-use Rattle.sc_syntax.specs.declared.BinOp.TheVariants as op
 use Rattle.sc_syntax.specs.declared.NumSort.{NumSort}
 use Rattle.sc_syntax.specs.declared.NumSort.TheVariants as num
 use Rattle.sc_syntax.specs.declared.Link.{Link}

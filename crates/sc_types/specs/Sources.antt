@@ -1,11 +1,10 @@
 -- The checks of a source.
-use Rattle.std.specs.Prelude.{ℕ, suc, Bool, true, false, not, ◌&&◌, ◌||◌, nat_eq, is_some, if◌then◌else◌, Option, Some, None, List, [], ◌∷◌, ◌++◌, length, map, find, codes, position}
+use Rattle.std.specs.Prelude.{ℕ, suc, Bool, true, false, not, ◌&&◌, nat_eq, if◌then◌else◌, Option, Some, None, List, [], ◌∷◌, ◌++◌, length, map, codes}
 use Rattle.std.specs.List.{list_any}
 use Rattle.sc_base.specs.Texts.{same}
 use Rattle.sc_syntax.specs.declared.Kind.{Kind}
 use Rattle.sc_syntax.specs.declared.Kind.TheVariants as kind
 use Rattle.sc_syntax.specs.declared.NumSort.TheVariants as num
-use Rattle.sc_syntax.specs.declared.Expr.{Expr}
 use Rattle.sc_syntax.specs.declared.Name.{Name}
 use Rattle.sc_syntax.specs.declared.Stmt.{Stmt}
 use Rattle.sc_syntax.specs.declared.Module.{Module}
@@ -22,7 +21,7 @@ use Rattle.sc_word.specs.Checks as words
 use Rattle.sc_types.specs.declared.fault.TypeFault.{TypeFault}
 use Rattle.sc_types.specs.declared.fault.TypeFault.TheVariants as fault
 use Rattle.sc_types.specs.Checks.{Check, check, first_fault}
-use Rattle.sc_types.specs.Declarations.{Declaration, Scope, declared_kind, or_pi, kinds, is_new}
+use Rattle.sc_types.specs.Declarations.{Declaration, declared_kind, or_pi, is_new}
 use Rattle.sc_types.specs.Numbers.{int_checks}
 use Rattle.sc_types.specs.Statements.{Walk, only, in_turn, walk_act, part_name}
 
@@ -60,7 +59,7 @@ walk_params before [] = only []
 walk_params before (p ∷ ps) =
     in_turn before (record {
       checks = length_checks (length_kinds before ps) p.sort ++ is_new before [] p.name ∷ [];
-      declares = record { name = p.name.text; kind = param_kind p.sort; scope = [] } ∷ []
+      declares = record { name = p.name.text; kind = param_kind p.sort; scope = [] } ∷ [];
     }) (λ known. walk_params known ps)
 
 -- the statements of a body from the i-th on, in the scope of the parameters

@@ -1,5 +1,5 @@
 -- The checks of statements, in the order of the walk, and the declarations that they make.
-use Rattle.std.specs.Prelude.{ℕ, zero, suc, ◌+◌, Bool, true, false, nat_eq, if◌then◌else◌, Option, Some, None, List, [], ◌∷◌, ◌++◌, length, map, find, replicate}
+use Rattle.std.specs.Prelude.{ℕ, suc, ◌+◌, Bool, true, false, nat_eq, if◌then◌else◌, Option, Some, None, List, [], ◌∷◌, ◌++◌, length, map, find, replicate}
 use Rattle.sc_base.specs.Texts.{same}
 use Rattle.sc_base.specs.declared.Place.{Place}
 use Rattle.sc_base.specs.declared.Class.{Class}
@@ -23,14 +23,13 @@ use Rattle.sc_syntax.specs.declared.Callee.TheVariants.{Gate, Named}
 use Rattle.sc_syntax.specs.declared.Act.{Act, Wires, Numbers, Set, Measure, Call, If', While', For', Block', Empty, Held-Act-If-2, None', Some', Row_of-Stmt, end_of-Stmt, more_of-Stmt}
 use Rattle.sc_syntax.specs.declared.Part.{Part}
 use Rattle.sc_syntax.specs.declared.Part.TheVariants as part
-use Rattle.sc_syntax.specs.declared.Param.{Param}
 use Rattle.sc_syntax.specs.declared.Sort.{Sort}
 use Rattle.sc_syntax.specs.declared.Sort.TheVariants as sort
 use Rattle.sc_syntax.specs.Kind.{Kinds, ◌>>=◌, kind_of_expr, kind_of_operation}
 use Rattle.sc_types.specs.declared.fault.TypeFault.TheVariants.{UnknownName, WrongKind, WrongCount}
 use Rattle.sc_types.specs.Checks.{Check, check}
 use Rattle.sc_types.specs.Declarations.{Declaration, Scope, kinds, declared_kind, is_pi, is_new}
-use Rattle.sc_types.specs.Numbers.{number_checks, int_checks, is_int, may_operate}
+use Rattle.sc_types.specs.Numbers.{number_checks, int_checks, may_operate}
 use Rattle.sc_types.specs.declared.want.Want.{Want}
 use Rattle.sc_types.specs.declared.want.Want.TheVariants.{OneWire, ManyWires, Word, AnInt, ADouble}
 use Rattle.sc_types.specs.Wires.{operand_checks, arguments_checks, gate_wants}
@@ -62,7 +61,7 @@ wire_kind c (Some e) = kind.Many c
 abbrev pub walk_decl : List Declaration → Scope → Class → Decl → Walk
 walk_decl before scope c d = record {
   checks = optional (int_checks (kinds before scope)) d.size ++ is_new before scope d.name ∷ [];
-  declares = record { name = d.name.text; kind = wire_kind c d.size; scope = scope } ∷ []
+  declares = record { name = d.name.text; kind = wire_kind c d.size; scope = scope } ∷ [];
 }
 
 -- the start of an `int` is an int, that of a double any number
@@ -73,7 +72,7 @@ start_checks ks num.Double e = number_checks ks e
 abbrev pub walk_init : List Declaration → Scope → NumSort → Init → Walk
 walk_init before scope s d = record {
   checks = optional (start_checks (kinds before scope) s) d.start ++ is_new before scope d.name ∷ [];
-  declares = record { name = d.name.text; kind = kind.Number s; scope = scope } ∷ []
+  declares = record { name = d.name.text; kind = kind.Number s; scope = scope } ∷ [];
 }
 
 abbrev pub walk_decls : List Declaration → Scope → Class → List Decl → Walk
@@ -119,7 +118,7 @@ abbrev pub set_checks : List Declaration → Scope → SetOf → List Check
 set_checks before scope s =
     may_set s.name.place (is_pi s.name.text) (declared_kind before scope s.name.text)
     ∷ optional (λ e. number_checks (kinds before scope) e
-      ++ fit_checks s.name.place s.place (number_of (declared_kind before scope s.name.text)) (set_by s.op) (kind_of_expr (kinds before scope) e)) s.value
+    ++ fit_checks s.name.place s.place (number_of (declared_kind before scope s.name.text)) (set_by s.op) (kind_of_expr (kinds before scope) e)) s.value
 
 -- the left side with its index, and then the measured operand
 abbrev pub measure_checks : Kinds → MeasureOf → List Check

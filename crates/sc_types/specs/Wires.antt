@@ -1,5 +1,5 @@
 -- The checks of operands and arguments.
-use Rattle.std.specs.Prelude.{ℕ, Bool, true, false, is_some, nat_eq, Option, Some, None, List, [], ◌∷◌, ◌++◌, length, map}
+use Rattle.std.specs.Prelude.{ℕ, Bool, true, false, nat_eq, Option, Some, None, List, [], ◌∷◌, ◌++◌}
 use Rattle.sc_base.specs.declared.Place.{Place}
 use Rattle.sc_base.specs.declared.Class.{Class}
 use Rattle.sc_base.specs.declared.Class.TheVariants.{Q, C}
@@ -9,13 +9,13 @@ use Rattle.sc_syntax.specs.declared.Kind.{Kind}
 use Rattle.sc_syntax.specs.declared.Kind.TheVariants as kind
 use Rattle.sc_syntax.specs.declared.Expr.{Expr}
 use Rattle.sc_syntax.specs.declared.Operand.{Operand}
-use Rattle.sc_syntax.specs.declared.Node.{Node, Int, Decimal, Name, Index', Paren', Unary', Chain', Pick'}
+use Rattle.sc_syntax.specs.declared.Node.{Node, Name, Index'}
 use Rattle.sc_syntax.specs.Kind.{Kinds}
 use Rattle.sc_types.specs.declared.want.Want.{Want}
 use Rattle.sc_types.specs.declared.want.Want.TheVariants.{OneWire, ManyWires, Word, AnInt, ADouble}
 use Rattle.sc_types.specs.declared.fault.TypeFault.TheVariants.{UnknownName, WrongKind}
 use Rattle.sc_types.specs.Checks.{Check, check}
-use Rattle.sc_types.specs.Numbers.{number_checks, int_checks, number_node, is_int}
+use Rattle.sc_types.specs.Numbers.{number_checks, int_checks}
 
 abbrev pub same_class : Class → Class → Bool
 same_class Q Q = true

@@ -41,7 +41,12 @@ fn arguments<N: Names>(names: &N, wants: &[Want], args: &[Expr]) -> Result<(), T
 }
 
 /// The fault of the number of arguments, or else of the arguments.
-pub(crate) fn applied<N: Names>(names: &N, at: Place, wants: &[Want], args: &[Expr]) -> Result<(), TypeFault>
+pub(crate) fn applied<N: Names>(
+    names: &N,
+    at: Place,
+    wants: &[Want],
+    args: &[Expr],
+) -> Result<(), TypeFault>
     ensures { result_err result ≡ first_fault (applied_checks (N.kinds names.now) at wants.now args.now) }
 {
     if args.len() != wants.len() {

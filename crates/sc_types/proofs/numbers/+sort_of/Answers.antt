@@ -1,5 +1,4 @@
-use Rattle.std.proofs.Common.{◌≡◌, List, Result, sym, ap, ◌∙◌}
-use Rattle.sc_syntax.specs.declared.Expr.{Expr}
+use Rattle.std.proofs.Common.{List, Result, sym, ap, ◌∙◌}
 use Rattle.sc_syntax.specs.declared.Link.{Link}
 use Rattle.sc_syntax.specs.declared.Node.{Node}
 use Rattle.sc_syntax.specs.declared.NumSort.{NumSort}

@@ -14,7 +14,7 @@ returns-clause-kind g c =
     let ks = g.N.Names.kinds c.args.names.now in
     let e = c.args.expr.now in
     subst (λ (r : Result NumSort TypeFault). IfOk r (λ s. kind_of_expr ks e ≡ Some s)) (sym c.sort_of.ensures)
-      (kind_told (sort_of ks e) (number_checks ks e) (kind_of_expr ks e) (tells_node ks e.place e.node))
+    (kind_told (sort_of ks e) (number_checks ks e) (kind_of_expr ks e) (tells_node ks e.place e.node))
 
 pub returns-clause-fault : goal.returns-clause-fault
 returns-clause-fault g c =
