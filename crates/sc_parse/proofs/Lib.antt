@@ -1,0 +1,11 @@
+pub mod Bools
+pub mod Tables
+pub mod Fronts
+pub mod Good
+pub mod Starts
+pub mod Exact
+pub mod Headline
+pub mod Unique
+pub mod Steps
+pub mod Forget
+pub mod Repeats

@@ -1,0 +1,11 @@
+//! The parser: tokens to trees.
+#![tactic(auto)]
+
+mod expr;
+mod make;
+mod parse;
+mod reader;
+mod terminal;
+mod word;
+
+pub use parse::ParseFault;
