@@ -9,3 +9,4 @@ pub mod Unique
 pub mod Steps
 pub mod Forget
 pub mod Repeats
+pub mod Sorts

@@ -141,6 +141,9 @@ one_other k d ts a le b = record { why = (le, record { run = λ st. other b }) }
 pub one_deep : (k : Terminal) (d : ℕ) (ts : List Piece) (a : ℕ) (t : Piece) → Here ts a t → begins (one k) (next (drop a ts)) ≡ true → 128 < d → Fails (one k) d ts a (TooNested a)
 one_deep k d ts a t h b lt = record { why = (h.within, record { run = λ st. subst (λ (l : List Piece). Runs ((d, one k) ∷ st) l (deep l)) (sym h.here) (too_deep (fits_here k ts a t h b) lt) }) }
 
+pub takes_sub : {s : Symbol} {d : ℕ} {ts : List Piece} {a e : ℕ} {vs : List Tree} {v : Tree} → Takes (rule s) d ts a e vs → Builds s vs v → Takes (sub s) d ts a e (v ∷ [])
+takes_sub r b = record { shallow = r.shallow; moves = r.moves; reads = reads_sub r.reads b }
+
 pub takes_left : {f g : Form} {d : ℕ} {ts : List Piece} {a e : ℕ} {vs : List Tree} → begins f (next (drop a ts)) ≡ true → Takes f d ts a e vs → Takes (f ∣ g) d ts a e vs
 takes_left b r = record { shallow = r.shallow; moves = r.moves; reads = reads_left b r.reads }
 

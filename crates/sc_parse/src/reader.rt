@@ -4,7 +4,8 @@ ghost use Rattle.sc_syntax.specs.declared.Token.{Token};
 ghost use Rattle.sc_parse.specs.Pieces.{IsInside};
 
 use crate::terminal::{Terminal, accepts, kind_of_token};
-use sc_syntax::Token;
+use sc_base::{Place, Text};
+use sc_syntax::{Mark, Name, Token, TokenSort, Width, Word};
 use std::alloc::Global;
 
 /// Why the tokens are no source: at which of them, or that memory ran out.
@@ -25,11 +26,14 @@ pub struct Reader<'a> {
 
 impl Reader<'_> {
     ghost use Rattle.sc_parse.specs.Input.{input};
-    ghost use Rattle.sc_parse.specs.Form.{one};
+    ghost use Rattle.sc_parse.specs.Form.{one, sub, mark as mark_form, word as word_form};
+    ghost use Rattle.sc_parse.specs.Form as symbol;
+    ghost use Rattle.sc_syntax.specs.TokenLists.{text_of};
+    ghost use Rattle.sc_syntax.specs.declared.TokenSort.TheVariants as sort;
     ghost use Rattle.sc_parse.specs.Pieces.{next, piece};
     ghost use Rattle.sc_parse.specs.Runs.{begins};
-    ghost use Rattle.sc_parse.specs.Reads.{Takes, Fails};
-    ghost use Rattle.sc_parse.specs.Trees.{token};
+    ghost use Rattle.sc_parse.specs.Reads.{Takes, TakesToken, Fails};
+    ghost use Rattle.sc_parse.specs.Trees.{token, name, width};
 
     /// Whether the next token is one that the terminal takes.
     pub fn is_at(&self, at: usize, terminal: Terminal) -> bool
@@ -62,5 +66,84 @@ impl Reader<'_> {
         }
         *at += 1;
         Ok(*token)
+    }
+
+    /// Whether the next token is this mark.
+    pub fn is_mark(&self, at: usize, mark: Mark) -> bool
+        ensures { result ≡ begins (mark_form mark) (next (drop at (input self.now))) }
+    {
+        self.is_at(at, Terminal::Mark(mark))
+    }
+
+    /// Whether the next token is this word.
+    pub fn is_word(&self, at: usize, word: Word) -> bool
+        ensures { result ≡ begins (word_form word) (next (drop at (input self.now))) }
+    {
+        self.is_at(at, Terminal::Word(word))
+    }
+
+    /// Takes this mark, and answers its place.
+    pub fn mark(&self, at: &mut usize, depth: u32, mark: Mark) -> Result<Place, Fault>
+        requires { at.old ≤ length (input self.now) }
+        ensures { MatchResult result
+            (TakesToken (mark_form mark) depth (input self.now) at.old at.new (sort.Mark mark))
+            (Fails (mark_form mark) depth (input self.now) at.old) }
+    {
+        let token = self.take(at, depth, Terminal::Mark(mark))?;
+        Ok(token.place)
+    }
+
+    /// Takes this word, and answers its place.
+    pub fn word(&self, at: &mut usize, depth: u32, word: Word) -> Result<Place, Fault>
+        requires { at.old ≤ length (input self.now) }
+        ensures { MatchResult result
+            (TakesToken (word_form word) depth (input self.now) at.old at.new (sort.Word word))
+            (Fails (word_form word) depth (input self.now) at.old) }
+    {
+        let token = self.take(at, depth, Terminal::Word(word))?;
+        Ok(token.place)
+    }
+
+    /// The text of a token.
+    pub fn text(&self, token: Token) -> Result<Text, Fault>
+        requires { IsInside self.now.source.now token }
+        ensures { MatchResult result (λ t. t ≡ text_of self.now.source.now token) (λ e. e ≡ Fault.Memory) }
+    {
+        match Text::from_bytes(self.alloc, &self.source[token.start as usize..token.end as usize]) {
+            Ok(text) => Ok(text),
+            Err(_) => Err(Fault::Memory),
+        }
+    }
+
+    /// Takes a name.
+    pub fn name(&self, at: &mut usize, depth: u32) -> Result<Name, Fault>
+        requires { at.old ≤ length (input self.now) }
+        ensures { MatchResult result
+            (λ n. Takes (sub symbol.Name) depth (input self.now) at.old at.new (name n ∷ []))
+            (Fails (sub symbol.Name) depth (input self.now) at.old) }
+    {
+        let token = self.take(at, depth, Terminal::Name)?;
+        let text = self.text(token)?;
+        Ok(Name {
+            text,
+            place: token.place,
+        })
+    }
+
+    /// Takes a whole number.
+    pub fn width(&self, at: &mut usize, depth: u32) -> Result<Width, Fault>
+        requires { at.old ≤ length (input self.now) }
+        ensures { MatchResult result
+            (λ w. Takes (sub symbol.Width) depth (input self.now) at.old at.new (width w ∷ []))
+            (Fails (sub symbol.Width) depth (input self.now) at.old) }
+    {
+        let token = self.take(at, depth, Terminal::Int)?;
+        match token.sort {
+            TokenSort::Int(value) => Ok(Width {
+                value,
+                place: token.place,
+            }),
+            _ => unreachable!(),
+        }
     }
 }
