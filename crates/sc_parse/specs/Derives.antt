@@ -7,6 +7,8 @@ use Rattle.sc_base.specs.declared.Class.{Class}
 use Rattle.sc_base.specs.declared.Fixed.{Fixed}
 use Rattle.sc_base.specs.declared.GateName.{GateName}
 use Rattle.sc_base.specs.declared.Place.{Place}
+use Rattle.sc_syntax.specs.declared.Mark.{Mark}
+use Rattle.sc_syntax.specs.declared.Word.{Word}
 use Rattle.sc_syntax.specs.declared.TokenSort.TheVariants as sort
 use Rattle.sc_syntax.specs.declared.NumSort.{NumSort}
 use Rattle.sc_syntax.specs.declared.NumSort.TheVariants as number
@@ -48,7 +50,7 @@ use Rattle.sc_parse.specs.Pieces.{Piece, kind, next, ahead}
 use Rattle.sc_parse.specs.Form.{Form, empty, one, sub, ◌⨾◌, ◌∣◌, many, nested, unless, Symbol}
 use Rattle.sc_parse.specs.Form as symbol
 use Rattle.sc_parse.specs.Rules.{rule, chain_of, word_chain_of}
-use Rattle.sc_parse.specs.Trees.{Tree, token, name, width, wire, num, expr, decl, init, stmt, meas, param, part, word_expr, word_param, bind, kept, each, if_there, name_of, IsClass, IsNumber, IsUnary, IsBinary, IsWordBinary, IsShift, IsSet}
+use Rattle.sc_parse.specs.Trees.{Tree, token, name, width, wire, num, expr, decl, init, stmt, meas, param, part, word_expr, word_param, bind, kept, each, if_there, name_of, class_of, number_of, unary_of, binary_of, word_binary_of, shift_of, set_of}
 
 -- an expression, a word and a statement, with their places
 
@@ -65,32 +67,32 @@ does p a = record { place = p; act = a }
 
 pub data Linked : List Tree → List Link → Type 0 where
   no_links : Linked [] []
-  one_link : {t : Piece} {l : Link} {vs : List Tree} {ls : List Link} → IsBinary t.token.sort l.op → l.place ≡ t.token.place → Linked vs ls
+  one_link : {t : Piece} {m : Mark} {l : Link} {vs : List Tree} {ls : List Link} → t.token.sort ≡ sort.Mark m → binary_of m ≡ Some l.op → l.place ≡ t.token.place → Linked vs ls
       → Linked (token t ∷ expr l.right ∷ vs) (l ∷ ls)
 
 pub data WordLinked : List Tree → List WordLink → Type 0 where
   no_links : WordLinked [] []
-  one_link : {t : Piece} {l : WordLink} {vs : List Tree} {ls : List WordLink} → IsWordBinary t.token.sort l.op → l.place ≡ t.token.place → WordLinked vs ls
+  one_link : {t : Piece} {m : Mark} {l : WordLink} {vs : List Tree} {ls : List WordLink} → t.token.sort ≡ sort.Mark m → word_binary_of m ≡ Some l.op → l.place ≡ t.token.place → WordLinked vs ls
       → WordLinked (token t ∷ word_expr l.right ∷ vs) (l ∷ ls)
 
 pub data ShiftLinked : List Tree → List ShiftLink → Type 0 where
   no_links : ShiftLinked [] []
-  one_link : {t : Piece} {l : ShiftLink} {vs : List Tree} {ls : List ShiftLink} → IsShift t.token.sort l.left → ShiftLinked vs ls
+  one_link : {t : Piece} {m : Mark} {l : ShiftLink} {vs : List Tree} {ls : List ShiftLink} → t.token.sort ≡ sort.Mark m → shift_of m ≡ Some l.left → ShiftLinked vs ls
       → ShiftLinked (token t ∷ width l.by ∷ vs) (l ∷ ls)
 
 -- `Builds s vs v`: a phrase of the symbol s whose parts are vs stands for v. One case for each alternative.
 pub data Builds : Symbol → List Tree → Tree → Type 0 where
   name_is : {t : Piece} → Builds symbol.Name (token t ∷ []) (name (name_of t))
   width_is : {t : Piece} {n : ℤ} → t.token.sort ≡ sort.Int n → Builds symbol.Width (token t ∷ []) (width (record { value = n; place = t.token.place }))
-  wire_is : {t : Piece} {c : Class} → IsClass t.token.sort c → Builds symbol.Wire (token t ∷ []) (wire c t.token.place)
-  num_is : {t : Piece} {n : NumSort} → IsNumber t.token.sort n → Builds symbol.Num (token t ∷ []) (num n t.token.place)
+  wire_is : {t : Piece} {w : Word} {c : Class} → t.token.sort ≡ sort.Word w → class_of w ≡ Some c → Builds symbol.Wire (token t ∷ []) (wire c t.token.place)
+  num_is : {t : Piece} {w : Word} {n : NumSort} → t.token.sort ≡ sort.Word w → number_of w ≡ Some n → Builds symbol.Num (token t ∷ []) (num n t.token.place)
   -- expressions
   int_is : {t : Piece} {n : ℤ} → t.token.sort ≡ sort.Int n → Builds symbol.Prim (token t ∷ []) (expr (at t.token.place (node.Int n)))
   decimal_is : {t : Piece} {d : Fixed} → t.token.sort ≡ sort.Decimal d → Builds symbol.Prim (token t ∷ []) (expr (at t.token.place (node.Decimal d)))
   named_is : {n : Name} → Builds symbol.Prim (name n ∷ []) (expr (at n.place (node.Name n.text)))
   index_is : {vs : List Tree} {n : Name} {i : Box Expr Global} → kept vs ≡ name n ∷ expr i.value ∷ [] → Builds symbol.Prim vs (expr (at n.place (node.Index n.text i)))
   paren_is : {t u : Piece} {e : Box Expr Global} → Builds symbol.Prim (token t ∷ expr e.value ∷ token u ∷ []) (expr (at t.token.place (node.Paren e)))
-  unary_is : {t : Piece} {o : UnOp} {e : Box Expr Global} → IsUnary t.token.sort o → Builds symbol.Unary (token t ∷ expr e.value ∷ []) (expr (at t.token.place (node.Unary o e)))
+  unary_is : {t : Piece} {m : Mark} {o : UnOp} {e : Box Expr Global} → t.token.sort ≡ sort.Mark m → unary_of m ≡ Some o → Builds symbol.Unary (token t ∷ expr e.value ∷ []) (expr (at t.token.place (node.Unary o e)))
   prim_is : {e : Expr} → Builds symbol.Unary (expr e ∷ []) (expr e)
   operand_is : (l : Level) {e : Expr} → Builds (chain_of l) (expr e ∷ []) (expr e)
   chain_is : (l : Level) {e : Box Expr Global} {vs : List Tree} (ls : Vec Link Global) → Linked vs ls.items → ls.items ≢ []
@@ -102,11 +104,11 @@ pub data Builds : Symbol → List Tree → Tree → Type 0 where
   init_is : {vs : List Tree} {i : Init} → kept vs ≡ name i.name ∷ if_there expr i.start → Builds symbol.Init vs (init i)
   meas_is : {vs : List Tree} {t : Piece} {g : GateName} {o : Operand} → t.token.sort ≡ sort.Gate g → kept vs ≡ name o.name ∷ if_there expr o.index
       → Builds symbol.Meas (token t ∷ vs) (meas g o)
-  set_is : {n : Name} {t : Piece} {o : SetOp} {e : Expr} → IsSet t.token.sort o
+  set_is : {n : Name} {t : Piece} {m : Mark} {o : SetOp} {e : Expr} → t.token.sort ≡ sort.Mark m → set_of m ≡ Some o
       → Builds symbol.Set (name n ∷ token t ∷ expr e ∷ []) (stmt (does n.place (act.Set (record { name = n; op = o; place = t.token.place; value = Some e }))))
-  stepped_is : {n : Name} {t : Piece} {o : SetOp} → IsSet t.token.sort o
+  stepped_is : {n : Name} {t : Piece} {m : Mark} {o : SetOp} → t.token.sort ≡ sort.Mark m → set_of m ≡ Some o
       → Builds symbol.Set (name n ∷ token t ∷ []) (stmt (does n.place (act.Set (record { name = n; op = o; place = t.token.place; value = None }))))
-  step_is : {n : Name} {t : Piece} {o : SetOp} → IsSet t.token.sort o
+  step_is : {n : Name} {t : Piece} {m : Mark} {o : SetOp} → t.token.sort ≡ sort.Mark m → set_of m ≡ Some o
       → Builds symbol.Set (token t ∷ name n ∷ []) (stmt (does t.token.place (act.Set (record { name = n; op = o; place = t.token.place; value = None }))))
   measured_is : {vs : List Tree} {n : Name} {i : Option Expr} {g : GateName} {o : Operand} → kept vs ≡ name n ∷ (if_there expr i ++ meas g o ∷ [])
       → Builds symbol.Set vs (stmt (does n.place (act.Measure (record { gate = g; into = record { name = n; index = i }; from = o }))))

@@ -1,4 +1,5 @@
 -- The right sides of the grammar's rules, as data.
+use Rattle.std.specs.Prelude.{List, [], ◌∷◌}
 use Rattle.sc_syntax.specs.declared.Mark.{Mark}
 use Rattle.sc_syntax.specs.declared.Word.{Word}
 use Rattle.sc_parse.specs.declared.terminal.Terminal.{Terminal}
@@ -76,3 +77,9 @@ mark m = one (marked m)
 -- a part that may be absent
 abbrev pub optional : Form → Form
 optional f = f ∣ empty
+
+-- one of these marks
+abbrev pub choice : List Mark → Form
+choice [] = empty
+choice (m ∷ []) = mark m
+choice (m ∷ n ∷ ms) = mark m ∣ choice (n ∷ ms)

@@ -2,6 +2,8 @@
 --
 -- Where two alternatives of a symbol begin alike, the common beginning stands once, so that one token tells
 -- which of them follows. So a statement that begins with a name is a `Step`, whose rest is that of a `Set` or of a call.
+use Rattle.std.specs.Prelude.{List, [], ◌∷◌}
+use Rattle.sc_syntax.specs.declared.Mark.{Mark}
 use Rattle.sc_syntax.specs.declared.Mark.TheVariants as m
 use Rattle.sc_syntax.specs.declared.Word.TheVariants as w
 use Rattle.sc_parse.specs.declared.expr.Level.{Level}
@@ -9,7 +11,7 @@ use Rattle.sc_parse.specs.declared.expr.Level.TheVariants as level
 use Rattle.sc_parse.specs.declared.word.WordLevel.{WordLevel}
 use Rattle.sc_parse.specs.declared.word.WordLevel.TheVariants as wlevel
 use Rattle.sc_parse.specs.declared.terminal.Terminal.TheVariants.{Word as reserved, Name as any_name, Plain, Main, Ext, Low, Gate, Measuring, Int, Decimal}
-use Rattle.sc_parse.specs.Form.{Form, empty, one, sub, ◌⨾◌, ◌∣◌, many, nested, unless, word, mark, optional, Symbol, Module, Param, Wire, Num, Stmt, Decl, Init, Start, Set, Step, Meas, Expr, Or, And, Equal, Order, Shift, Sum, Prod, Unary, Prim, Words, WParam, Bind, WExpr, WOr, WXor, WAnd, WEq, WLess, WShift, WSum, WProd, WUnary, WPrim, Name, Width}
+use Rattle.sc_parse.specs.Form.{Form, empty, one, sub, ◌⨾◌, ◌∣◌, many, nested, unless, word, mark, optional, choice, Symbol, Module, Param, Wire, Num, Stmt, Decl, Init, Start, Set, Step, Meas, Expr, Or, And, Equal, Order, Shift, Sum, Prod, Unary, Prim, Words, WParam, Bind, WExpr, WOr, WXor, WAnd, WEq, WLess, WShift, WSum, WProd, WUnary, WPrim, Name, Width}
 
 -- one or more, with commas between them
 abbrev pub list : Form → Form
@@ -39,14 +41,18 @@ operand level.Shift = sub Sum
 operand level.Sum = sub Prod
 operand level.Product = sub Unary
 
+-- the operators of a level
+abbrev pub marks : Level → List Mark
+marks level.Or = m.OrOr ∷ []
+marks level.And = m.AndAnd ∷ []
+marks level.Equal = m.EqEq ∷ m.NotEq ∷ []
+marks level.Order = m.Less ∷ m.LessEq ∷ m.Greater ∷ m.GreaterEq ∷ []
+marks level.Shift = m.ShiftLeft ∷ m.ShiftRight ∷ []
+marks level.Sum = m.Plus ∷ m.Minus ∷ []
+marks level.Product = m.Star ∷ m.Slash ∷ m.Percent ∷ []
+
 abbrev pub operator : Level → Form
-operator level.Or = mark m.OrOr
-operator level.And = mark m.AndAnd
-operator level.Equal = mark m.EqEq ∣ mark m.NotEq
-operator level.Order = mark m.Less ∣ mark m.LessEq ∣ mark m.Greater ∣ mark m.GreaterEq
-operator level.Shift = mark m.ShiftLeft ∣ mark m.ShiftRight
-operator level.Sum = mark m.Plus ∣ mark m.Minus
-operator level.Product = mark m.Star ∣ mark m.Slash ∣ mark m.Percent
+operator l = choice (marks l)
 
 abbrev pub chain : Level → Form
 chain l = operand l ⨾ many (operator l ⨾ operand l)
@@ -71,28 +77,44 @@ word_operand wlevel.Less = sub WShift
 word_operand wlevel.Sum = sub WProd
 word_operand wlevel.Product = sub WUnary
 
+-- the operators of a level
+abbrev pub word_marks : WordLevel → List Mark
+word_marks wlevel.Or = m.Or ∷ []
+word_marks wlevel.Xor = m.Caret ∷ []
+word_marks wlevel.And = m.And ∷ []
+word_marks wlevel.Equal = m.EqEq ∷ []
+word_marks wlevel.Less = m.Less ∷ []
+word_marks wlevel.Sum = m.Plus ∷ m.Minus ∷ []
+word_marks wlevel.Product = m.Star ∷ []
+
 abbrev pub word_operator : WordLevel → Form
-word_operator wlevel.Or = mark m.Or
-word_operator wlevel.Xor = mark m.Caret
-word_operator wlevel.And = mark m.And
-word_operator wlevel.Equal = mark m.EqEq
-word_operator wlevel.Less = mark m.Less
-word_operator wlevel.Sum = mark m.Plus ∣ mark m.Minus
-word_operator wlevel.Product = mark m.Star
+word_operator l = choice (word_marks l)
 
 abbrev pub word_chain : WordLevel → Form
 word_chain l = word_operand l ⨾ many (word_operator l ⨾ word_operand l)
+
+abbrev pub unary_marks : List Mark
+unary_marks = m.Minus ∷ m.Plus ∷ m.Bang ∷ []
+
+abbrev pub shift_marks : List Mark
+shift_marks = m.ShiftLeft ∷ m.ShiftRight ∷ []
+
+abbrev pub step_marks : List Mark
+step_marks = m.PlusPlus ∷ m.MinusMinus ∷ []
+
+abbrev pub compound_marks : List Mark
+compound_marks = m.PlusEq ∷ m.MinusEq ∷ m.StarEq ∷ m.SlashEq ∷ m.PercentEq ∷ []
 
 -- the rest of a `Set` after its name
 abbrev pub set_rest : Form
 set_rest =
     mark m.Eq ⨾ (sub Meas ∣ sub Expr)
     ∣ mark m.OpenBracket ⨾ sub Expr ⨾ mark m.CloseBracket ⨾ mark m.Eq ⨾ sub Meas
-    ∣ (mark m.PlusEq ∣ mark m.MinusEq ∣ mark m.StarEq ∣ mark m.SlashEq ∣ mark m.PercentEq) ⨾ sub Expr
-    ∣ (mark m.PlusPlus ∣ mark m.MinusMinus)
+    ∣ choice compound_marks ⨾ sub Expr
+    ∣ choice step_marks
 
 abbrev pub step_up : Form
-step_up = (mark m.PlusPlus ∣ mark m.MinusMinus) ⨾ sub Name
+step_up = choice step_marks ⨾ sub Name
 
 -- the rest of a call after the name of what is called
 abbrev pub call_rest : Form
@@ -153,7 +175,7 @@ rule Order = chain level.Order
 rule Shift = chain level.Shift
 rule Sum = chain level.Sum
 rule Prod = chain level.Product
-rule Unary = nested ((mark m.Minus ∣ mark m.Plus ∣ mark m.Bang) ⨾ sub Unary) ∣ sub Prim
+rule Unary = nested (choice unary_marks ⨾ sub Unary) ∣ sub Prim
 rule Prim = one Int ∣ one Decimal ∣ sub Name ⨾ index ∣ mark m.OpenParen ⨾ sub Expr ⨾ mark m.CloseParen
 rule Words = word w.Classical ⨾ sub Name ⨾ mark m.OpenParen ⨾ list (sub WParam) ⨾ mark m.CloseParen ⨾ mark m.Colon ⨾ sub Width
     ⨾ mark m.OpenBrace ⨾ many (sub Bind) ⨾ word w.Return ⨾ sub WExpr ⨾ mark m.Semicolon ⨾ mark m.CloseBrace
@@ -165,7 +187,7 @@ rule WXor = word_chain wlevel.Xor
 rule WAnd = word_chain wlevel.And
 rule WEq = word_chain wlevel.Equal
 rule WLess = word_chain wlevel.Less
-rule WShift = sub WSum ⨾ many ((mark m.ShiftLeft ∣ mark m.ShiftRight) ⨾ sub Width)
+rule WShift = sub WSum ⨾ many (choice shift_marks ⨾ sub Width)
 rule WSum = word_chain wlevel.Sum
 rule WProd = word_chain wlevel.Product
 rule WUnary = nested (mark m.Tilde ⨾ sub WUnary) ∣ sub WPrim

@@ -73,63 +73,70 @@ abbrev pub name_of : Piece → Name
 name_of p = record { text = p.text; place = p.token.place }
 
 -- the class of wires that a word declares
-pub data IsClass : TokenSort → Class → Type 0 where
-  qbit : IsClass (sort.Word w.Qbit) class.Q
-  cbit : IsClass (sort.Word w.Cbit) class.C
+abbrev pub class_of : Word → Option Class
+class_of w.Qbit = Some class.Q
+class_of w.Cbit = Some class.C
+class_of _ = None
 
 -- the kind of number that a word declares
-pub data IsNumber : TokenSort → NumSort → Type 0 where
-  int : IsNumber (sort.Word w.Int) number.Int
-  double : IsNumber (sort.Word w.Double) number.Double
-  float : IsNumber (sort.Word w.Float) number.Double
+abbrev pub number_of : Word → Option NumSort
+number_of w.Int = Some number.Int
+number_of w.Double = Some number.Double
+number_of w.Float = Some number.Double
+number_of _ = None
 
 -- what a mark before an operand means
-pub data IsUnary : TokenSort → UnOp → Type 0 where
-  minus : IsUnary (sort.Mark m.Minus) unary.Minus
-  plus : IsUnary (sort.Mark m.Plus) unary.Plus
-  bang : IsUnary (sort.Mark m.Bang) unary.Not
+abbrev pub unary_of : Mark → Option UnOp
+unary_of m.Minus = Some unary.Minus
+unary_of m.Plus = Some unary.Plus
+unary_of m.Bang = Some unary.Not
+unary_of _ = None
 
 -- what a mark between two operands means
-pub data IsBinary : TokenSort → BinOp → Type 0 where
-  or : IsBinary (sort.Mark m.OrOr) binary.Or
-  and : IsBinary (sort.Mark m.AndAnd) binary.And
-  eq : IsBinary (sort.Mark m.EqEq) binary.Eq
-  ne : IsBinary (sort.Mark m.NotEq) binary.Ne
-  lt : IsBinary (sort.Mark m.Less) binary.Lt
-  le : IsBinary (sort.Mark m.LessEq) binary.Le
-  gt : IsBinary (sort.Mark m.Greater) binary.Gt
-  ge : IsBinary (sort.Mark m.GreaterEq) binary.Ge
-  shl : IsBinary (sort.Mark m.ShiftLeft) binary.Shl
-  shr : IsBinary (sort.Mark m.ShiftRight) binary.Shr
-  add : IsBinary (sort.Mark m.Plus) binary.Add
-  sub : IsBinary (sort.Mark m.Minus) binary.Sub
-  mul : IsBinary (sort.Mark m.Star) binary.Mul
-  div : IsBinary (sort.Mark m.Slash) binary.Div
-  rem : IsBinary (sort.Mark m.Percent) binary.Rem
+abbrev pub binary_of : Mark → Option BinOp
+binary_of m.OrOr = Some binary.Or
+binary_of m.AndAnd = Some binary.And
+binary_of m.EqEq = Some binary.Eq
+binary_of m.NotEq = Some binary.Ne
+binary_of m.Less = Some binary.Lt
+binary_of m.LessEq = Some binary.Le
+binary_of m.Greater = Some binary.Gt
+binary_of m.GreaterEq = Some binary.Ge
+binary_of m.ShiftLeft = Some binary.Shl
+binary_of m.ShiftRight = Some binary.Shr
+binary_of m.Plus = Some binary.Add
+binary_of m.Minus = Some binary.Sub
+binary_of m.Star = Some binary.Mul
+binary_of m.Slash = Some binary.Div
+binary_of m.Percent = Some binary.Rem
+binary_of _ = None
 
 -- what a mark between two words means
-pub data IsWordBinary : TokenSort → WordOp → Type 0 where
-  word_or : IsWordBinary (sort.Mark m.Or) wordop.Or
-  word_xor : IsWordBinary (sort.Mark m.Caret) wordop.Xor
-  word_and : IsWordBinary (sort.Mark m.And) wordop.And
-  word_eq : IsWordBinary (sort.Mark m.EqEq) wordop.Eq
-  word_lt : IsWordBinary (sort.Mark m.Less) wordop.Lt
-  word_add : IsWordBinary (sort.Mark m.Plus) wordop.Add
-  word_sub : IsWordBinary (sort.Mark m.Minus) wordop.Sub
-  word_mul : IsWordBinary (sort.Mark m.Star) wordop.Mul
+abbrev pub word_binary_of : Mark → Option WordOp
+word_binary_of m.Or = Some wordop.Or
+word_binary_of m.Caret = Some wordop.Xor
+word_binary_of m.And = Some wordop.And
+word_binary_of m.EqEq = Some wordop.Eq
+word_binary_of m.Less = Some wordop.Lt
+word_binary_of m.Plus = Some wordop.Add
+word_binary_of m.Minus = Some wordop.Sub
+word_binary_of m.Star = Some wordop.Mul
+word_binary_of _ = None
 
 -- whether a mark shifts to the left
-pub data IsShift : TokenSort → Bool → Type 0 where
-  left : IsShift (sort.Mark m.ShiftLeft) true
-  right : IsShift (sort.Mark m.ShiftRight) false
+abbrev pub shift_of : Mark → Option Bool
+shift_of m.ShiftLeft = Some true
+shift_of m.ShiftRight = Some false
+shift_of _ = None
 
 -- what a mark does to a number
-pub data IsSet : TokenSort → SetOp → Type 0 where
-  put : IsSet (sort.Mark m.Eq) set.Put
-  add_to : IsSet (sort.Mark m.PlusEq) set.Add
-  sub_from : IsSet (sort.Mark m.MinusEq) set.Sub
-  mul_by : IsSet (sort.Mark m.StarEq) set.Mul
-  div_by : IsSet (sort.Mark m.SlashEq) set.Div
-  rem_by : IsSet (sort.Mark m.PercentEq) set.Rem
-  up : IsSet (sort.Mark m.PlusPlus) set.Up
-  down : IsSet (sort.Mark m.MinusMinus) set.Down
+abbrev pub set_of : Mark → Option SetOp
+set_of m.Eq = Some set.Put
+set_of m.PlusEq = Some set.Add
+set_of m.MinusEq = Some set.Sub
+set_of m.StarEq = Some set.Mul
+set_of m.SlashEq = Some set.Div
+set_of m.PercentEq = Some set.Rem
+set_of m.PlusPlus = Some set.Up
+set_of m.MinusMinus = Some set.Down
+set_of _ = None

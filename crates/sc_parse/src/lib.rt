@@ -3,6 +3,7 @@
 
 mod expr;
 mod make;
+mod operators;
 mod parse;
 mod reader;
 mod terminal;

@@ -4,7 +4,7 @@ ghost use Rattle.sc_parse.specs.Derives.{Builds, Linked, WordLinked};
 ghost use Rattle.sc_parse.specs.Form as symbol;
 ghost use Rattle.sc_parse.specs.Pieces.{Piece};
 ghost use Rattle.sc_parse.specs.Rules.{chain_of, word_chain_of};
-ghost use Rattle.sc_parse.specs.Trees.{Tree, expr, token, IsUnary};
+ghost use Rattle.sc_parse.specs.Trees.{Tree, expr, token};
 
 use crate::expr::Level;
 use crate::reader::Fault;

@@ -1,5 +1,5 @@
 //! Tokens, read from left to right.
-ghost use Rattle.std.specs.Prelude.{◌≡◌, ℕ, ◌≤◌, ◌<◌, length, drop, slice_get, Some, MatchResult, [], ◌∷◌};
+ghost use Rattle.std.specs.Prelude.{◌≡◌, ℕ, ◌≤◌, ◌<◌, length, drop, slice_get, Some, MatchResult, [], ◌∷◌, find};
 ghost use Rattle.sc_syntax.specs.declared.Token.{Token};
 ghost use Rattle.sc_parse.specs.Pieces.{IsInside};
 
@@ -80,6 +80,13 @@ impl Reader<'_> {
         ensures { result ≡ begins (word_form word) (next (drop at (input self.now))) }
     {
         self.is_at(at, Terminal::Word(word))
+    }
+
+    /// The first of these marks that is the next token.
+    pub fn which(&self, at: usize, marks: &[Mark]) -> Option<Mark>
+        ensures { result ≡ find (λ m. begins (mark_form m) (next (drop at (input self.now)))) marks.now }
+    {
+        marks.iter().copied().find(|mark| self.is_mark(at, *mark))
     }
 
     /// Takes this mark, and answers its place.
