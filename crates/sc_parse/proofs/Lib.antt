@@ -9,4 +9,6 @@ pub mod Unique
 pub mod Steps
 pub mod Forget
 pub mod Repeats
+pub mod Chains
 pub mod Sorts
+pub mod Choices

@@ -168,3 +168,7 @@ begins_neither f g (Some k) b c = both_false (first f k) (first g k) b c
 pub none_of : {X : Type 0} (r : Option X) (P : Type 0) (Q : X → Type 0) → ((x : X) → r ≡ Some x → ⊥) → MatchOption r P Q → P
 none_of None P Q n h = h
 none_of (Some x) P Q n h = absurd (n x refl)
+
+pub no_value : {X : Type 0} (r : Option X) → ((x : X) → r ≡ Some x → ⊥) → r ≡ None
+no_value None n = refl
+no_value (Some x) n = absurd (n x refl)

@@ -89,7 +89,7 @@ pub data Builds : Symbol → List Tree → Tree → Type 0 where
   -- expressions
   int_is : {t : Piece} {n : ℤ} → t.token.sort ≡ sort.Int n → Builds symbol.Prim (token t ∷ []) (expr (at t.token.place (node.Int n)))
   decimal_is : {t : Piece} {d : Fixed} → t.token.sort ≡ sort.Decimal d → Builds symbol.Prim (token t ∷ []) (expr (at t.token.place (node.Decimal d)))
-  named_is : {n : Name} → Builds symbol.Prim (name n ∷ []) (expr (at n.place (node.Name n.text)))
+  named_is : {vs : List Tree} {n : Name} → kept vs ≡ name n ∷ [] → Builds symbol.Prim vs (expr (at n.place (node.Name n.text)))
   index_is : {vs : List Tree} {n : Name} {i : Box Expr Global} → kept vs ≡ name n ∷ expr i.value ∷ [] → Builds symbol.Prim vs (expr (at n.place (node.Index n.text i)))
   paren_is : {t u : Piece} {e : Box Expr Global} → Builds symbol.Prim (token t ∷ expr e.value ∷ token u ∷ []) (expr (at t.token.place (node.Paren e)))
   unary_is : {t : Piece} {m : Mark} {o : UnOp} {e : Box Expr Global} → t.token.sort ≡ sort.Mark m → unary_of m ≡ Some o → Builds symbol.Unary (token t ∷ expr e.value ∷ []) (expr (at t.token.place (node.Unary o e)))

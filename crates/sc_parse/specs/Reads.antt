@@ -1,13 +1,21 @@
 -- What a function of the parser says of the tokens from a place on.
-use Rattle.std.specs.Prelude.{◌≡◌, ℕ, ◌+◌, ◌≤◌, ◌<◌, length, drop, List, [], ◌∷◌}
+use Rattle.std.specs.Prelude.{◌≡◌, ℕ, ◌+◌, ◌≤◌, ◌<◌, length, drop, Bool, true, List, [], ◌∷◌, Some}
+use Rattle.std.specs.List.{list_all}
+use Rattle.sc_syntax.specs.declared.Mark.{Mark}
+use Rattle.sc_syntax.specs.declared.TokenSort.TheVariants as sort
 use Rattle.sc_base.specs.declared.Place.{Place}
 use Rattle.sc_syntax.specs.declared.TokenSort.{TokenSort}
+use Rattle.sc_syntax.specs.declared.BinOp.{BinOp}
+use Rattle.sc_syntax.specs.declared.WordOp.{WordOp}
+use Rattle.sc_parse.specs.declared.expr.Level.{Level}
+use Rattle.sc_parse.specs.declared.word.WordLevel.{WordLevel}
 use Rattle.sc_parse.specs.declared.reader.Fault.{Fault}
 use Rattle.sc_parse.specs.declared.reader.Fault.TheVariants.{Syntax, TooNested, Memory}
 use Rattle.sc_parse.specs.declared.terminal.Terminal.{Terminal}
 use Rattle.sc_parse.specs.Pieces.{Piece}
-use Rattle.sc_parse.specs.Form.{Form, one}
-use Rattle.sc_parse.specs.Trees.{Tree, token, kept}
+use Rattle.sc_parse.specs.Form.{Form, choice}
+use Rattle.sc_parse.specs.Trees.{Tree, token, kept, binary_of, word_binary_of}
+use Rattle.sc_parse.specs.Rules.{operator, word_operator}
 use Rattle.sc_parse.specs.Runs.{Stack, Outcome, stuck, deep, Runs}
 use Rattle.sc_parse.specs.Derives.{Derives}
 
@@ -36,6 +44,29 @@ pub record TakesToken (f : Form) (depth : ℕ) (ts : List Piece) (at end : ℕ) 
   pub is : it.token.sort ≡ sort
   pub stands : it.token.place ≡ place
   pub takes : Takes f depth ts at end (token it ∷ [])
+
+-- One of these marks stands there, and is not nested too deep.
+pub record TakesMark (marks : List Mark) (depth : ℕ) (ts : List Piece) (at end : ℕ) (mark : Mark) (place : Place) : Type 0 where
+  pub token : TakesToken (choice marks) depth ts at end (sort.Mark mark) place
+  pub among : (p : Mark → Bool) → list_all p marks ≡ true → p mark ≡ true
+
+-- An operator of the level stands there, and is not nested too deep.
+pub record TakesBinary (level : Level) (depth : ℕ) (ts : List Piece) (at end : ℕ) (op : BinOp) (place : Place) : Type 0 where
+  pub it : Piece
+  pub mark : Mark
+  pub is : it.token.sort ≡ sort.Mark mark
+  pub means : binary_of mark ≡ Some op
+  pub stands : it.token.place ≡ place
+  pub takes : Takes (operator level) depth ts at end (token it ∷ [])
+
+-- An operator of the level of words stands there, and is not nested too deep.
+pub record TakesWordBinary (level : WordLevel) (depth : ℕ) (ts : List Piece) (at end : ℕ) (op : WordOp) (place : Place) : Type 0 where
+  pub it : Piece
+  pub mark : Mark
+  pub is : it.token.sort ≡ sort.Mark mark
+  pub means : word_binary_of mark ≡ Some op
+  pub stands : it.token.place ≡ place
+  pub takes : Takes (word_operator level) depth ts at end (token it ∷ [])
 
 -- the form is not read from `at` on, whatever is read after it
 pub record Ends (f : Form) (depth : ℕ) (ts : List Piece) (at : ℕ) (o : Outcome) : Type 0 where

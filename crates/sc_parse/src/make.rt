@@ -1,15 +1,18 @@
 //! Trees from their parts.
-ghost use Rattle.std.specs.Prelude.{◌≡◌, ◌≢◌, ◌++◌, List as Listed, [], ◌∷◌, IfErr, IfOk, OnOk};
+ghost use Rattle.std.specs.Prelude.{◌≡◌, ◌≢◌, ◌++◌, ℤ, true, is_some, List as Listed, [], ◌∷◌, IfErr, IfOk, OnOk};
 ghost use Rattle.sc_parse.specs.Derives.{Builds, Linked, WordLinked};
 ghost use Rattle.sc_parse.specs.Form as symbol;
 ghost use Rattle.sc_parse.specs.Pieces.{Piece};
 ghost use Rattle.sc_parse.specs.Rules.{chain_of, word_chain_of};
-ghost use Rattle.sc_parse.specs.Trees.{Tree, expr, token};
+ghost use Rattle.sc_base.specs.declared.Fixed.{Fixed};
+ghost use Rattle.sc_syntax.specs.declared.TokenSort.TheVariants as sort;
+ghost use Rattle.sc_parse.specs.Trees.{Tree, expr, if_there, kept, name as part_of_name, token, token as part_of_token, unary_of};
 
 use crate::expr::Level;
+use crate::operators;
 use crate::reader::Fault;
 use sc_base::{List, Place};
-use sc_syntax::{Expr, Link, Name, Node, UnOp};
+use sc_syntax::{Expr, Link, Mark, Name, Node, Token, TokenSort};
 use std::alloc::Global;
 
 /// Puts a value on the heap.
@@ -73,7 +76,7 @@ pub fn pick(alloc: Global, test: Expr, yes: Expr, no: Expr) -> Result<Expr, Faul
 }
 
 /// An operand and the links behind it.
-pub fn chain(alloc: Global, level: Level, first: Expr, links: Vec<Link>) -> Result<Expr, Fault>
+pub fn links(alloc: Global, level: Level, first: Expr, links: Vec<Link>) -> Result<Expr, Fault>
     requires { links.items ≢ [] }
     ensures ok { IfOk result (λ e. (vs : Listed Tree) → Linked vs links.items → Builds (chain_of level) (expr first ∷ vs) (expr e)) }
     ensures err { IfErr result (λ e. e ≡ Fault.Memory) }
@@ -83,5 +86,68 @@ pub fn chain(alloc: Global, level: Level, first: Expr, links: Vec<Link>) -> Resu
     Ok(Expr {
         place,
         node: Node::Chain(first, links),
+    })
+}
+
+/// A mark before an operand.
+pub fn sign(alloc: Global, place: Place, mark: Mark, operand: Expr) -> Result<Expr, Fault>
+    requires { is_some (unary_of mark) ≡ true }
+    ensures ok { IfOk result (λ e. (t : Piece) → t.token.sort ≡ sort.Mark mark → t.token.place ≡ place → Builds symbol.Unary (token t ∷ expr operand ∷ []) (expr e)) }
+    ensures err { IfErr result (λ e. e ≡ Fault.Memory) }
+{
+    let Some(op) = operators::unary(mark) else {
+        unreachable!()
+    };
+    let operand = boxed(alloc, operand)?;
+    Ok(Expr {
+        place,
+        node: Node::Unary(op, operand),
+    })
+}
+
+/// A whole number.
+pub fn int(token: Token) -> Expr
+    requires { (n : ℤ) × (token.sort ≡ sort.Int n) }
+    ensures { (t : Piece) → t.token ≡ token → Builds symbol.Prim (part_of_token t ∷ []) (expr result) }
+{
+    match token.sort {
+        TokenSort::Int(value) => Expr {
+            place: token.place,
+            node: Node::Int(value),
+        },
+        _ => unreachable!(),
+    }
+}
+
+/// A number with a point.
+pub fn decimal(token: Token) -> Expr
+    requires { (d : Fixed) × (token.sort ≡ sort.Decimal d) }
+    ensures { (t : Piece) → t.token ≡ token → Builds symbol.Prim (part_of_token t ∷ []) (expr result) }
+{
+    match token.sort {
+        TokenSort::Decimal(value) => Expr {
+            place: token.place,
+            node: Node::Decimal(value),
+        },
+        _ => unreachable!(),
+    }
+}
+
+/// A name, or an item of the array that it names.
+pub fn named(alloc: Global, name: Name, index: Option<Expr>) -> Result<Expr, Fault>
+    ensures ok { IfOk result (λ e. (vs : Listed Tree) → kept vs ≡ if_there expr index → Builds symbol.Prim (part_of_name name ∷ vs) (expr e)) }
+    ensures err { IfErr result (λ e. e ≡ Fault.Memory) }
+{
+    let place = name.place;
+    let Some(index) = index else {
+        return Ok(Expr {
+            place,
+            node: Node::Name(name.text),
+        });
+    };
+    let index = boxed(alloc, index)?;
+    Ok(Expr {
+        place,
+        node: Node::Index(name.text, index),
     })
 }

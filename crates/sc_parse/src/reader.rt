@@ -1,5 +1,5 @@
 //! Tokens, read from left to right.
-ghost use Rattle.std.specs.Prelude.{◌≡◌, ℕ, ◌≤◌, ◌<◌, length, drop, slice_get, Some, MatchResult, [], ◌∷◌, find};
+ghost use Rattle.std.specs.Prelude.{◌≡◌, ◌≢◌, ℕ, ◌≤◌, ◌<◌, length, drop, slice_get, Some, MatchResult, [], ◌∷◌, find};
 ghost use Rattle.sc_syntax.specs.declared.Token.{Token};
 ghost use Rattle.sc_parse.specs.Pieces.{IsInside};
 
@@ -26,13 +26,13 @@ pub struct Reader<'a> {
 
 impl Reader<'_> {
     ghost use Rattle.sc_parse.specs.Input.{input};
-    ghost use Rattle.sc_parse.specs.Form.{one, sub, mark as mark_form, word as word_form};
+    ghost use Rattle.sc_parse.specs.Form.{choice, one, sub, mark as mark_form, word as word_form};
     ghost use Rattle.sc_parse.specs.Form as symbol;
     ghost use Rattle.sc_syntax.specs.TokenLists.{text_of};
     ghost use Rattle.sc_syntax.specs.declared.TokenSort.TheVariants as sort;
     ghost use Rattle.sc_parse.specs.Pieces.{next, piece};
     ghost use Rattle.sc_parse.specs.Runs.{begins};
-    ghost use Rattle.sc_parse.specs.Reads.{Takes, TakesToken, Fails};
+    ghost use Rattle.sc_parse.specs.Reads.{Takes, TakesMark, TakesToken, Fails};
     ghost use Rattle.sc_parse.specs.Trees.{token, name, width};
 
     /// Whether the next token is one that the terminal takes.
@@ -98,6 +98,28 @@ impl Reader<'_> {
     {
         let token = self.take(at, depth, Terminal::Mark(mark))?;
         Ok(token.place)
+    }
+
+    /// Whether one of these marks is the next token.
+    pub fn is_one_of(&self, at: usize, marks: &[Mark]) -> bool
+        ensures { result ≡ begins (choice marks.now) (next (drop at (input self.now))) }
+    {
+        self.which(at, marks).is_some()
+    }
+
+    /// Takes one of these marks, and answers which, and its place.
+    pub fn one_of(&self, at: &mut usize, depth: u32, marks: &[Mark]) -> Result<(Mark, Place), Fault>
+        requires within { at.old ≤ length (input self.now) }
+        requires some { marks.now ≢ [] }
+        ensures { MatchResult result
+            (λ r. TakesMark marks.now depth (input self.now) at.old at.new r.0 r.1)
+            (Fails (choice marks.now) depth (input self.now) at.old) }
+    {
+        let Some(mark) = self.which(*at, marks) else {
+            return Err(Fault::Syntax(*at));
+        };
+        let place = self.mark(at, depth, mark)?;
+        Ok((mark, place))
     }
 
     /// Takes this word, and answers its place.
