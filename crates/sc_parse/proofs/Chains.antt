@@ -21,16 +21,6 @@ use Rattle.sc_parse.specs.Reads.{Reads, Fails, TakesBinary}
 use Rattle.sc_parse.proofs.Steps.{reads_sub, reads_both, reads_as, fails_sub}
 use Rattle.sc_parse.proofs.Repeats.{Repeated, none_yet, one_later, repeats}
 
--- how loosely a level's operators bind
-abbrev pub looseness : Level → ℕ
-looseness Or = 6
-looseness And = 5
-looseness Equal = 4
-looseness Order = 3
-looseness Shift = 2
-looseness Sum = 1
-looseness Product = 0
-
 or_false : (b : Bool) → (b || false) ≡ b
 or_false true = refl
 or_false false = refl
@@ -70,30 +60,30 @@ fails_chain Product r = fails_sub r
 -- from `at` to `end` stand operators with their operands, which make these links
 pub record Chained (l : Level) (d : ℕ) (ts : List Piece) (at end : ℕ) (made : List Link) : Type 0 where
   pub used : List Tree
-  pub linked : Linked used made
+  pub linked : Linked l used made
   pub repeated : Repeated (operator l ⨾ operand l) d ts at end used
 
 pub chained_start : (l : Level) (d : ℕ) (ts : List Piece) (a : ℕ) (made : List Link) → a ≤ length ts → made ≡ [] → Chained l d ts a a made
-chained_start l d ts a made le e = record { used = []; linked = subst (λ (ls : List Link). Linked [] ls) (sym e) no_links; repeated = none_yet _ _ _ _ le }
+chained_start l d ts a made le e = record { used = []; linked = subst (λ (ls : List Link). Linked l [] ls) (sym e) no_links; repeated = none_yet _ _ _ _ le }
 
-linked_more : (us : List Tree) (ls : List Link) (t : Piece) (x : Link) → Linked us ls → Linked (token t ∷ expr x.right ∷ []) (x ∷ []) → Linked (us ++ token t ∷ expr x.right ∷ []) (ls ++ x ∷ [])
-linked_more us ls t x no_links k = k
-linked_more us ls t x (one_link {vs = vs} {ls = ms} i b e r) k = one_link i b e (linked_more vs ms t x r k)
+linked_more : (l : Level) (us : List Tree) (ls : List Link) (t : Piece) (x : Link) → Linked l us ls → Linked l (token t ∷ expr x.right ∷ []) (x ∷ []) → Linked l (us ++ token t ∷ expr x.right ∷ []) (ls ++ x ∷ [])
+linked_more l us ls t x no_links k = k
+linked_more l us ls t x (one_link {vs = vs} {ls = ms} i b v e r) k = one_link i b v e (linked_more l vs ms t x r k)
 
 pub chained_more : (l : Level) (d : ℕ) (ts : List Piece) (a m o e : ℕ) (made after : List Link) (x : Link) → Chained l d ts a m made → begins (operator l ⨾ operand l) (next (drop m ts)) ≡ true
   → TakesBinary l d ts m o x.op x.place → Reads (operand l) d ts o e (expr x.right ∷ []) → after ≡ made ++ x ∷ [] → Chained l d ts a e after
 chained_more l d ts a m o e made after x c b t r i = record {
   used = c.used ++ token t.it ∷ expr x.right ∷ [];
-  linked = subst (λ (ls : List Link). Linked (c.used ++ token t.it ∷ expr x.right ∷ []) ls) (sym i) (linked_more c.used made t.it x c.linked (one_link t.is t.means (sym t.stands) no_links));
+  linked = subst (λ (ls : List Link). Linked l (c.used ++ token t.it ∷ expr x.right ∷ []) ls) (sym i) (linked_more l c.used made t.it x c.linked (one_link t.is t.means t.levelled (sym t.stands) no_links));
   repeated = one_later _ _ _ _ _ _ _ _ c.repeated b (reads_both t.takes.reads r);
 }
 
-none_used : (us : List Tree) → Linked us [] → us ≡ []
-none_used us no_links = refl
+none_used : (l : Level) (us : List Tree) → Linked l us [] → us ≡ []
+none_used l us no_links = refl
 
 -- an operand with nothing behind it
 pub chained_none : (l : Level) (d : ℕ) (ts : List Piece) (a m e : ℕ) (head : Expr) (made : List Link) → Reads (operand l) d ts a m (expr head ∷ []) → Chained l d ts m e made
   → begins (operator l ⨾ operand l) (next (drop e ts)) ≡ false → made ≡ [] → Reads (sub (chain_of l)) d ts a e (expr head ∷ [])
 chained_none l d ts a m e head made r c b i =
-    let n = none_used c.used (subst (λ (ls : List Link). Linked c.used ls) i c.linked) in
+    let n = none_used l c.used (subst (λ (ls : List Link). Linked l c.used ls) i c.linked) in
     reads_chain l (reads_as (expr head ∷ []) (ap (λ (us : List Tree). expr head ∷ us) n) (reads_both r (repeats _ _ _ _ _ _ c.repeated b))) (operand_is l)

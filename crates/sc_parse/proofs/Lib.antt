@@ -8,6 +8,7 @@ pub mod Headline
 pub mod Unique
 pub mod Steps
 pub mod Forget
+pub mod Levels
 pub mod Repeats
 pub mod Chains
 pub mod Sorts

@@ -7,7 +7,7 @@ use Rattle.sc_syntax.specs.declared.Word.{Word}
 use Rattle.sc_syntax.specs.declared.Word.TheVariants as w
 use Rattle.sc_parse.specs.declared.terminal.Terminal.{Terminal}
 use Rattle.sc_parse.specs.declared.terminal.Terminal.TheVariants.{Word as reserved, Mark as marked, Name as any_name, Plain, Main, Ext, Low, Other, Gate, Measuring, Int, Decimal}
-use Rattle.sc_parse.specs.Form.{Form, empty, one, sub, ◌⨾◌, ◌∣◌, many, nested, unless, Symbol, Module, Param, Wire, Num, Stmt, Decl, Init, Start, Set, Step, Meas, Expr, Or, And, Equal, Order, Shift, Sum, Prod, Unary, Prim, Words, WParam, Bind, WExpr, WOr, WXor, WAnd, WEq, WLess, WShift, WSum, WProd, WUnary, WPrim, Name, Width}
+use Rattle.sc_parse.specs.Form.{Form, empty, one, sub, ◌⨾◌, ◌∣◌, many, nested, unless, Symbol, Module, Param, Wire, Num, Stmt, Decl, Init, Start, Set, Step, Meas, Expr, Or, And, Equal, Order, Shift, Sum, Prod, Unary, Prim, Words, WParam, Bind, WExpr, WOr, WXor, WAnd, WEq, WLess, WShift, WSum, WProd, WUnary, WPrim, Name, MainName, Width}
 use Rattle.sc_parse.specs.Rules.{rule}
 use Rattle.sc_parse.specs.Runs.{among, passes, first, starts}
 use Rattle.sc_parse.proofs.Bools.{and_fst, and_snd}
@@ -206,6 +206,7 @@ follow WProd = among (marked m.EqEq ∷ marked m.ShiftLeft ∷ marked m.ShiftRig
 follow WUnary = among (marked m.EqEq ∷ marked m.ShiftLeft ∷ marked m.ShiftRight ∷ marked m.CloseParen ∷ marked m.Semicolon ∷ marked m.Comma ∷ marked m.Colon ∷ marked m.Question ∷ marked m.Plus ∷ marked m.Minus ∷ marked m.Star ∷ marked m.Less ∷ marked m.And ∷ marked m.Or ∷ marked m.Caret ∷ [])
 follow WPrim = among (marked m.EqEq ∷ marked m.ShiftLeft ∷ marked m.ShiftRight ∷ marked m.CloseParen ∷ marked m.Semicolon ∷ marked m.Comma ∷ marked m.Colon ∷ marked m.Question ∷ marked m.Plus ∷ marked m.Minus ∷ marked m.Star ∷ marked m.Less ∷ marked m.And ∷ marked m.Or ∷ marked m.Caret ∷ [])
 follow Name = among (marked m.PlusPlus ∷ marked m.MinusMinus ∷ marked m.PlusEq ∷ marked m.MinusEq ∷ marked m.StarEq ∷ marked m.SlashEq ∷ marked m.PercentEq ∷ marked m.EqEq ∷ marked m.NotEq ∷ marked m.LessEq ∷ marked m.GreaterEq ∷ marked m.AndAnd ∷ marked m.OrOr ∷ marked m.ShiftLeft ∷ marked m.ShiftRight ∷ marked m.OpenParen ∷ marked m.CloseParen ∷ marked m.OpenBracket ∷ marked m.CloseBracket ∷ marked m.Semicolon ∷ marked m.Comma ∷ marked m.Colon ∷ marked m.Question ∷ marked m.Eq ∷ marked m.Plus ∷ marked m.Minus ∷ marked m.Star ∷ marked m.Slash ∷ marked m.Percent ∷ marked m.Less ∷ marked m.Greater ∷ [])
+follow MainName = among (marked m.OpenParen ∷ [])
 follow Width = among (marked m.EqEq ∷ marked m.ShiftLeft ∷ marked m.ShiftRight ∷ marked m.CloseParen ∷ marked m.CloseBracket ∷ marked m.OpenBrace ∷ marked m.Semicolon ∷ marked m.Comma ∷ marked m.Colon ∷ marked m.Question ∷ marked m.Less ∷ marked m.And ∷ marked m.Or ∷ marked m.Caret ∷ [])
 
 abbrev pub after : Form → (Terminal → Bool) → Terminal → Bool
@@ -267,4 +268,5 @@ rules_ok WProd = refl
 rules_ok WUnary = refl
 rules_ok WPrim = refl
 rules_ok Name = refl
+rules_ok MainName = refl
 rules_ok Width = refl

@@ -44,13 +44,13 @@ use Rattle.sc_syntax.specs.declared.Bind.{Bind as BindTree}
 use Rattle.sc_parse.specs.declared.expr.Level.{Level}
 use Rattle.sc_parse.specs.declared.word.WordLevel.{WordLevel}
 use Rattle.sc_parse.specs.declared.terminal.Terminal.{Terminal}
-use Rattle.sc_parse.specs.declared.terminal.Terminal.TheVariants.{Ext, Low}
-use Rattle.sc_parse.specs.Terminals.{fits}
+use Rattle.sc_parse.specs.declared.terminal.Terminal.TheVariants.{Ext, Low, Measuring}
+use Rattle.sc_parse.specs.Terminals.{fits, gate_kind}
 use Rattle.sc_parse.specs.Pieces.{Piece, kind, next, ahead}
 use Rattle.sc_parse.specs.Form.{Form, empty, one, sub, ◌⨾◌, ◌∣◌, many, nested, unless, Symbol}
 use Rattle.sc_parse.specs.Form as symbol
 use Rattle.sc_parse.specs.Rules.{rule, chain_of, word_chain_of}
-use Rattle.sc_parse.specs.Trees.{Tree, token, name, width, wire, num, expr, decl, init, stmt, meas, param, part, word_expr, word_param, bind, kept, each, if_there, name_of, class_of, number_of, unary_of, binary_of, word_binary_of, shift_of, set_of}
+use Rattle.sc_parse.specs.Trees.{Tree, token, name, width, wire, num, expr, decl, init, stmt, meas, param, part, word_expr, word_param, bind, kept, each, if_there, name_of, class_of, number_of, unary_of, binary_of, word_binary_of, level_of, word_level_of, shift_of, set_of, step_of}
 
 -- an expression, a word and a statement, with their places
 
@@ -65,15 +65,15 @@ does p a = record { place = p; act = a }
 
 -- operators and operands, and the links that they make
 
-pub data Linked : List Tree → List Link → Type 0 where
-  no_links : Linked [] []
-  one_link : {t : Piece} {m : Mark} {l : Link} {vs : List Tree} {ls : List Link} → t.token.sort ≡ sort.Mark m → binary_of m ≡ Some l.op → l.place ≡ t.token.place → Linked vs ls
-      → Linked (token t ∷ expr l.right ∷ vs) (l ∷ ls)
+pub data Linked (lv : Level) : List Tree → List Link → Type 0 where
+  no_links : Linked lv [] []
+  one_link : {t : Piece} {m : Mark} {l : Link} {vs : List Tree} {ls : List Link} → t.token.sort ≡ sort.Mark m → binary_of m ≡ Some l.op → level_of l.op ≡ lv → l.place ≡ t.token.place → Linked lv vs ls
+      → Linked lv (token t ∷ expr l.right ∷ vs) (l ∷ ls)
 
-pub data WordLinked : List Tree → List WordLink → Type 0 where
-  no_links : WordLinked [] []
-  one_link : {t : Piece} {m : Mark} {l : WordLink} {vs : List Tree} {ls : List WordLink} → t.token.sort ≡ sort.Mark m → word_binary_of m ≡ Some l.op → l.place ≡ t.token.place → WordLinked vs ls
-      → WordLinked (token t ∷ word_expr l.right ∷ vs) (l ∷ ls)
+pub data WordLinked (lv : WordLevel) : List Tree → List WordLink → Type 0 where
+  no_links : WordLinked lv [] []
+  one_link : {t : Piece} {m : Mark} {l : WordLink} {vs : List Tree} {ls : List WordLink} → t.token.sort ≡ sort.Mark m → word_binary_of m ≡ Some l.op → word_level_of l.op ≡ lv → l.place ≡ t.token.place → WordLinked lv vs ls
+      → WordLinked lv (token t ∷ word_expr l.right ∷ vs) (l ∷ ls)
 
 pub data ShiftLinked : List Tree → List ShiftLink → Type 0 where
   no_links : ShiftLinked [] []
@@ -83,6 +83,7 @@ pub data ShiftLinked : List Tree → List ShiftLink → Type 0 where
 -- `Builds s vs v`: a phrase of the symbol s whose parts are vs stands for v. One case for each alternative.
 pub data Builds : Symbol → List Tree → Tree → Type 0 where
   name_is : {t : Piece} → Builds symbol.Name (token t ∷ []) (name (name_of t))
+  main_name_is : {t : Piece} → Builds symbol.MainName (token t ∷ []) (name (name_of t))
   width_is : {t : Piece} {n : ℤ} → t.token.sort ≡ sort.Int n → Builds symbol.Width (token t ∷ []) (width (record { value = n; place = t.token.place }))
   wire_is : {t : Piece} {w : Word} {c : Class} → t.token.sort ≡ sort.Word w → class_of w ≡ Some c → Builds symbol.Wire (token t ∷ []) (wire c t.token.place)
   num_is : {t : Piece} {w : Word} {n : NumSort} → t.token.sort ≡ sort.Word w → number_of w ≡ Some n → Builds symbol.Num (token t ∷ []) (num n t.token.place)
@@ -95,20 +96,20 @@ pub data Builds : Symbol → List Tree → Tree → Type 0 where
   unary_is : {t : Piece} {m : Mark} {o : UnOp} {e : Box Expr Global} → t.token.sort ≡ sort.Mark m → unary_of m ≡ Some o → Builds symbol.Unary (token t ∷ expr e.value ∷ []) (expr (at t.token.place (node.Unary o e)))
   prim_is : {e : Expr} → Builds symbol.Unary (expr e ∷ []) (expr e)
   operand_is : (l : Level) {e : Expr} → Builds (chain_of l) (expr e ∷ []) (expr e)
-  chain_is : (l : Level) {e : Box Expr Global} {vs : List Tree} (ls : Vec Link Global) → Linked vs ls.items → ls.items ≢ []
+  chain_is : (l : Level) {e : Box Expr Global} {vs : List Tree} (ls : Vec Link Global) → Linked l vs ls.items → ls.items ≢ []
       → Builds (chain_of l) (expr e.value ∷ vs) (expr (at e.value.place (node.Chain e ls)))
   or_is : {e : Expr} → Builds symbol.Expr (expr e ∷ []) (expr e)
   pick_is : {t u : Piece} {c e f : Box Expr Global} → Builds symbol.Expr (expr c.value ∷ token t ∷ expr e.value ∷ token u ∷ expr f.value ∷ []) (expr (at c.value.place (node.Pick c e f)))
   -- statements
   decl_is : {vs : List Tree} {d : Decl} → kept vs ≡ name d.name ∷ if_there expr d.size → Builds symbol.Decl vs (decl d)
   init_is : {vs : List Tree} {i : Init} → kept vs ≡ name i.name ∷ if_there expr i.start → Builds symbol.Init vs (init i)
-  meas_is : {vs : List Tree} {t : Piece} {g : GateName} {o : Operand} → t.token.sort ≡ sort.Gate g → kept vs ≡ name o.name ∷ if_there expr o.index
+  meas_is : {vs : List Tree} {t : Piece} {g : GateName} {o : Operand} → t.token.sort ≡ sort.Gate g → gate_kind g ≡ Measuring → kept vs ≡ name o.name ∷ if_there expr o.index
       → Builds symbol.Meas (token t ∷ vs) (meas g o)
   set_is : {n : Name} {t : Piece} {m : Mark} {o : SetOp} {e : Expr} → t.token.sort ≡ sort.Mark m → set_of m ≡ Some o
       → Builds symbol.Set (name n ∷ token t ∷ expr e ∷ []) (stmt (does n.place (act.Set (record { name = n; op = o; place = t.token.place; value = Some e }))))
-  stepped_is : {n : Name} {t : Piece} {m : Mark} {o : SetOp} → t.token.sort ≡ sort.Mark m → set_of m ≡ Some o
+  stepped_is : {n : Name} {t : Piece} {m : Mark} {o : SetOp} → t.token.sort ≡ sort.Mark m → step_of m ≡ Some o
       → Builds symbol.Set (name n ∷ token t ∷ []) (stmt (does n.place (act.Set (record { name = n; op = o; place = t.token.place; value = None }))))
-  step_is : {n : Name} {t : Piece} {m : Mark} {o : SetOp} → t.token.sort ≡ sort.Mark m → set_of m ≡ Some o
+  step_is : {n : Name} {t : Piece} {m : Mark} {o : SetOp} → t.token.sort ≡ sort.Mark m → step_of m ≡ Some o
       → Builds symbol.Set (token t ∷ name n ∷ []) (stmt (does t.token.place (act.Set (record { name = n; op = o; place = t.token.place; value = None }))))
   measured_is : {vs : List Tree} {n : Name} {i : Option Expr} {g : GateName} {o : Operand} → kept vs ≡ name n ∷ (if_there expr i ++ meas g o ∷ [])
       → Builds symbol.Set vs (stmt (does n.place (act.Measure (record { gate = g; into = record { name = n; index = i }; from = o }))))
@@ -141,8 +142,7 @@ pub data Builds : Symbol → List Tree → Tree → Type 0 where
   int_param_is : {p : Place} {n : Name} → Builds symbol.Param (num number.Int p ∷ name n ∷ []) (param (record { name = n; sort = psort.Int }))
   double_param_is : {p : Place} {n : Name} → Builds symbol.Param (num number.Double p ∷ name n ∷ []) (param (record { name = n; sort = psort.Double }))
   module_is : {vs : List Tree} {x : ModuleTree} → kept vs ≡ name x.name ∷ (each param x.params ++ each stmt x.body) → Builds symbol.Module vs (part (part_of.Module x))
-  main_is : {t u : Piece} {vs : List Tree} {x : ModuleTree} → x.name ≡ name_of u → kept vs ≡ each param x.params ++ each stmt x.body
-      → Builds symbol.Module (token t ∷ token u ∷ vs) (part (part_of.Module x))
+
   -- classical functions
   word_int_is : {t : Piece} {n : ℤ} → t.token.sort ≡ sort.Int n → Builds symbol.WPrim (token t ∷ []) (word_expr (word_at t.token.place (wnode.Int n)))
   word_name_is : {t : Piece} → t.token.sort ≡ sort.Name → Builds symbol.WPrim (token t ∷ []) (word_expr (word_at t.token.place (wnode.Name t.text)))
@@ -154,7 +154,7 @@ pub data Builds : Symbol → List Tree → Tree → Type 0 where
   not_is : {t : Piece} {e : Box WordExpr Global} → Builds symbol.WUnary (token t ∷ word_expr e.value ∷ []) (word_expr (word_at t.token.place (wnode.Not e)))
   word_prim_is : {e : WordExpr} → Builds symbol.WUnary (word_expr e ∷ []) (word_expr e)
   word_operand_is : (l : WordLevel) {e : WordExpr} → Builds (word_chain_of l) (word_expr e ∷ []) (word_expr e)
-  word_chain_is : (l : WordLevel) {e : Box WordExpr Global} {vs : List Tree} (ls : Vec WordLink Global) → WordLinked vs ls.items → ls.items ≢ []
+  word_chain_is : (l : WordLevel) {e : Box WordExpr Global} {vs : List Tree} (ls : Vec WordLink Global) → WordLinked l vs ls.items → ls.items ≢ []
       → Builds (word_chain_of l) (word_expr e.value ∷ vs) (word_expr (word_at e.value.place (wnode.Chain e ls)))
   word_sum_is : {e : WordExpr} → Builds symbol.WShift (word_expr e ∷ []) (word_expr e)
   shift_is : {e : Box WordExpr Global} {vs : List Tree} {ls : List ShiftLink} → ShiftLinked vs ls → ls ≢ []

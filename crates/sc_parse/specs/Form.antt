@@ -43,6 +43,7 @@ pub data Symbol : Type 0 where
   WUnary : Symbol
   WPrim : Symbol
   Name : Symbol
+  MainName : Symbol
   Width : Symbol
 
 -- the right side of a rule

@@ -13,11 +13,11 @@ use Rattle.sc_parse.specs.declared.reader.Fault.{Fault}
 use Rattle.sc_parse.specs.declared.reader.Fault.TheVariants.{Syntax, TooNested, Memory}
 use Rattle.sc_parse.specs.declared.terminal.Terminal.{Terminal}
 use Rattle.sc_parse.specs.Pieces.{Piece}
-use Rattle.sc_parse.specs.Form.{Form, choice}
-use Rattle.sc_parse.specs.Trees.{Tree, token, kept, binary_of, word_binary_of}
+use Rattle.sc_parse.specs.Form.{Form, choice, Symbol}
+use Rattle.sc_parse.specs.Trees.{Tree, token, kept, binary_of, word_binary_of, level_of, word_level_of}
 use Rattle.sc_parse.specs.Rules.{operator, word_operator}
 use Rattle.sc_parse.specs.Runs.{Stack, Outcome, stuck, deep, Runs}
-use Rattle.sc_parse.specs.Derives.{Derives}
+use Rattle.sc_parse.specs.Derives.{Derives, Builds}
 
 -- The form is read from `at` up to `end`, whatever is read after it, and derives these parts.
 pub record Reads (f : Form) (depth : ℕ) (ts : List Piece) (at end : ℕ) (vs : List Tree) : Type 0 where
@@ -31,6 +31,18 @@ pub record Keeps (f : Form) (depth : ℕ) (ts : List Piece) (at end : ℕ) (vs :
   pub parts : List Tree
   pub reads : Reads f depth ts at end parts
   pub same : kept parts ≡ vs
+
+-- The same, where the parts build this tree as a phrase of the symbol.
+pub record Makes (f : Form) (s : Symbol) (depth : ℕ) (ts : List Piece) (at end : ℕ) (v : Tree) : Type 0 where
+  pub parts : List Tree
+  pub reads : Reads f depth ts at end parts
+  pub builds : Builds s parts v
+
+-- The same, where one part stands before them.
+pub record MakesAfter (f : Form) (s : Symbol) (depth : ℕ) (ts : List Piece) (at end : ℕ) (before v : Tree) : Type 0 where
+  pub parts : List Tree
+  pub reads : Reads f depth ts at end parts
+  pub builds : Builds s (before ∷ parts) v
 
 -- One token of the form stands there, and is not nested too deep.
 pub record Takes (f : Form) (depth : ℕ) (ts : List Piece) (at end : ℕ) (vs : List Tree) : Type 0 where
@@ -56,6 +68,7 @@ pub record TakesBinary (level : Level) (depth : ℕ) (ts : List Piece) (at end :
   pub mark : Mark
   pub is : it.token.sort ≡ sort.Mark mark
   pub means : binary_of mark ≡ Some op
+  pub levelled : level_of op ≡ level
   pub stands : it.token.place ≡ place
   pub takes : Takes (operator level) depth ts at end (token it ∷ [])
 
@@ -65,6 +78,7 @@ pub record TakesWordBinary (level : WordLevel) (depth : ℕ) (ts : List Piece) (
   pub mark : Mark
   pub is : it.token.sort ≡ sort.Mark mark
   pub means : word_binary_of mark ≡ Some op
+  pub levelled : word_level_of op ≡ level
   pub stands : it.token.place ≡ place
   pub takes : Takes (word_operator level) depth ts at end (token it ∷ [])
 

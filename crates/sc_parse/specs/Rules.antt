@@ -11,7 +11,7 @@ use Rattle.sc_parse.specs.declared.expr.Level.TheVariants as level
 use Rattle.sc_parse.specs.declared.word.WordLevel.{WordLevel}
 use Rattle.sc_parse.specs.declared.word.WordLevel.TheVariants as wlevel
 use Rattle.sc_parse.specs.declared.terminal.Terminal.TheVariants.{Word as reserved, Name as any_name, Plain, Main, Ext, Low, Gate, Measuring, Int, Decimal}
-use Rattle.sc_parse.specs.Form.{Form, empty, one, sub, ◌⨾◌, ◌∣◌, many, nested, unless, word, mark, optional, choice, Symbol, Module, Param, Wire, Num, Stmt, Decl, Init, Start, Set, Step, Meas, Expr, Or, And, Equal, Order, Shift, Sum, Prod, Unary, Prim, Words, WParam, Bind, WExpr, WOr, WXor, WAnd, WEq, WLess, WShift, WSum, WProd, WUnary, WPrim, Name, Width}
+use Rattle.sc_parse.specs.Form.{Form, empty, one, sub, ◌⨾◌, ◌∣◌, many, nested, unless, word, mark, optional, choice, Symbol, Module, Param, Wire, Num, Stmt, Decl, Init, Start, Set, Step, Meas, Expr, Or, And, Equal, Order, Shift, Sum, Prod, Unary, Prim, Words, WParam, Bind, WExpr, WOr, WXor, WAnd, WEq, WLess, WShift, WSum, WProd, WUnary, WPrim, Name, MainName, Width}
 
 -- one or more, with commas between them
 abbrev pub list : Form → Form
@@ -120,10 +120,15 @@ step_up = choice step_marks ⨾ sub Name
 abbrev pub call_rest : Form
 call_rest = mark m.OpenParen ⨾ optional (list (sub Expr)) ⨾ mark m.CloseParen
 
+-- what a module begins with
+abbrev pub heading : Form
+heading = word w.Module ⨾ sub Name ∣ word w.Void ⨾ sub Name ∣ word w.Int ⨾ sub MainName
+
 -- the parameters of a module
 abbrev pub params : Form
 params = word w.Void ∣ list (sub Param) ∣ empty
 
+-- a `return`, which leaves nothing in the tree
 abbrev pub returned : Form
 returned = optional (word w.Return ⨾ optional (one Int) ⨾ mark m.Semicolon)
 
@@ -146,7 +151,7 @@ abbrev pub for_loop : Form
 for_loop = word w.For ⨾ mark m.OpenParen ⨾ optional (sub Start) ⨾ mark m.Semicolon ⨾ optional (sub Expr) ⨾ mark m.Semicolon ⨾ optional (sub Set) ⨾ mark m.CloseParen ⨾ sub Stmt
 
 abbrev pub rule : Symbol → Form
-rule Module = (word w.Module ⨾ sub Name ∣ word w.Void ⨾ sub Name ∣ word w.Int ⨾ one Main)
+rule Module = heading
     ⨾ mark m.OpenParen ⨾ params ⨾ mark m.CloseParen
     ⨾ mark m.OpenBrace ⨾ many (sub Stmt) ⨾ returned ⨾ mark m.CloseBrace
 rule Param = sub Wire ⨾ (mark m.Star ⨾ sub Name ∣ sub Name ⨾ optional (mark m.OpenBracket ⨾ optional (sub Expr) ⨾ mark m.CloseBracket)) ∣ sub Num ⨾ sub Name
@@ -165,7 +170,7 @@ rule Decl = sub Name ⨾ index
 rule Init = sub Name ⨾ optional (mark m.Eq ⨾ sub Expr)
 rule Start = numbers ∣ sub Set
 rule Set = sub Name ⨾ set_rest ∣ step_up
-rule Step = sub Name ⨾ (set_rest ∣ call_rest) ∣ step_up ∣ one Gate ⨾ call_rest
+rule Step = sub Name ⨾ (call_rest ∣ set_rest) ∣ step_up ∣ one Gate ⨾ call_rest
 rule Meas = one Measuring ⨾ mark m.OpenParen ⨾ sub Name ⨾ index ⨾ mark m.CloseParen
 rule Expr = nested (sub Or ⨾ optional (mark m.Question ⨾ sub Expr ⨾ mark m.Colon ⨾ sub Expr))
 rule Or = chain level.Or
@@ -194,6 +199,7 @@ rule WUnary = nested (mark m.Tilde ⨾ sub WUnary) ∣ sub WPrim
 rule WPrim = one Int ∣ one Plain ∣ mark m.OpenParen ⨾ sub WExpr ⨾ mark m.CloseParen
     ∣ (one Ext ∣ one Low) ⨾ optional (mark m.OpenParen ⨾ sub WExpr ⨾ mark m.Comma ⨾ sub Width ⨾ mark m.CloseParen)
 rule Name = one any_name
+rule MainName = one Main
 rule Width = one Int
 
 -- a source, which may be empty

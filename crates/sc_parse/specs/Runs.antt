@@ -3,10 +3,10 @@ use Rattle.std.specs.Prelude.{◌≡◌, ℕ, ◌+◌, ◌<◌, ◌≤◌, Bool,
 use Rattle.sc_syntax.specs.declared.Mark.TheVariants as m
 use Rattle.sc_syntax.specs.declared.Word.TheVariants as w
 use Rattle.sc_parse.specs.declared.terminal.Terminal.{Terminal}
-use Rattle.sc_parse.specs.declared.terminal.Terminal.TheVariants.{Word as reserved, Mark as marked, Name as any_name, Plain, Ext, Low, Gate, Measuring, Int, Decimal}
+use Rattle.sc_parse.specs.declared.terminal.Terminal.TheVariants.{Word as reserved, Mark as marked, Name as any_name, Plain, Main, Ext, Low, Gate, Measuring, Int, Decimal}
 use Rattle.sc_parse.specs.Terminals.{fits}
 use Rattle.sc_parse.specs.Pieces.{Piece, kind, next, ahead}
-use Rattle.sc_parse.specs.Form.{Form, empty, one, sub, ◌⨾◌, ◌∣◌, many, nested, unless, Symbol, Module, Param, Wire, Num, Stmt, Decl, Init, Start, Set, Step, Meas, Expr, Or, And, Equal, Order, Shift, Sum, Prod, Unary, Prim, Words, WParam, Bind, WExpr, WOr, WXor, WAnd, WEq, WLess, WShift, WSum, WProd, WUnary, WPrim, Name, Width}
+use Rattle.sc_parse.specs.Form.{Form, empty, one, sub, ◌⨾◌, ◌∣◌, many, nested, unless, Symbol, Module, Param, Wire, Num, Stmt, Decl, Init, Start, Set, Step, Meas, Expr, Or, And, Equal, Order, Shift, Sum, Prod, Unary, Prim, Words, WParam, Bind, WExpr, WOr, WXor, WAnd, WEq, WLess, WShift, WSum, WProd, WUnary, WPrim, Name, MainName, Width}
 use Rattle.sc_parse.specs.Rules.{rule}
 
 -- one of the terminals takes a token of this kind
@@ -52,6 +52,7 @@ starts WProd = among (Plain ∷ Ext ∷ Low ∷ Int ∷ marked m.OpenParen ∷ m
 starts WUnary = among (Plain ∷ Ext ∷ Low ∷ Int ∷ marked m.OpenParen ∷ marked m.Tilde ∷ [])
 starts WPrim = among (Plain ∷ Ext ∷ Low ∷ Int ∷ marked m.OpenParen ∷ [])
 starts Name = among (any_name ∷ [])
+starts MainName = among (Main ∷ [])
 starts Width = among (Int ∷ [])
 
 -- whether the form may match no token before a token of this kind, or at the end

@@ -32,6 +32,10 @@ use Rattle.sc_syntax.specs.declared.Part.{Part}
 use Rattle.sc_syntax.specs.declared.Width.{Width}
 use Rattle.sc_syntax.specs.declared.WordParam.{WordParam}
 use Rattle.sc_syntax.specs.declared.Bind.{Bind}
+use Rattle.sc_parse.specs.declared.expr.Level.{Level}
+use Rattle.sc_parse.specs.declared.expr.Level.TheVariants as level
+use Rattle.sc_parse.specs.declared.word.WordLevel.{WordLevel}
+use Rattle.sc_parse.specs.declared.word.WordLevel.TheVariants as wlevel
 use Rattle.sc_parse.specs.Pieces.{Piece}
 
 -- A part of a phrase: a token, or what a symbol stands for.
@@ -129,7 +133,7 @@ shift_of m.ShiftLeft = Some true
 shift_of m.ShiftRight = Some false
 shift_of _ = None
 
--- what a mark does to a number
+-- how a mark sets a number by a value
 abbrev pub set_of : Mark → Option SetOp
 set_of m.Eq = Some set.Put
 set_of m.PlusEq = Some set.Add
@@ -137,6 +141,39 @@ set_of m.MinusEq = Some set.Sub
 set_of m.StarEq = Some set.Mul
 set_of m.SlashEq = Some set.Div
 set_of m.PercentEq = Some set.Rem
-set_of m.PlusPlus = Some set.Up
-set_of m.MinusMinus = Some set.Down
 set_of _ = None
+
+-- how a mark sets a number without a value
+abbrev pub step_of : Mark → Option SetOp
+step_of m.PlusPlus = Some set.Up
+step_of m.MinusMinus = Some set.Down
+step_of _ = None
+
+-- the level of an operator
+abbrev pub level_of : BinOp → Level
+level_of binary.Or = level.Or
+level_of binary.And = level.And
+level_of binary.Eq = level.Equal
+level_of binary.Ne = level.Equal
+level_of binary.Lt = level.Order
+level_of binary.Le = level.Order
+level_of binary.Gt = level.Order
+level_of binary.Ge = level.Order
+level_of binary.Shl = level.Shift
+level_of binary.Shr = level.Shift
+level_of binary.Add = level.Sum
+level_of binary.Sub = level.Sum
+level_of binary.Mul = level.Product
+level_of binary.Div = level.Product
+level_of binary.Rem = level.Product
+
+-- the level of an operator on words
+abbrev pub word_level_of : WordOp → WordLevel
+word_level_of wordop.Or = wlevel.Or
+word_level_of wordop.Xor = wlevel.Xor
+word_level_of wordop.And = wlevel.And
+word_level_of wordop.Eq = wlevel.Equal
+word_level_of wordop.Lt = wlevel.Less
+word_level_of wordop.Add = wlevel.Sum
+word_level_of wordop.Sub = wlevel.Sum
+word_level_of wordop.Mul = wlevel.Product

@@ -78,7 +78,7 @@ pub fn pick(alloc: Global, test: Expr, yes: Expr, no: Expr) -> Result<Expr, Faul
 /// An operand and the links behind it.
 pub fn links(alloc: Global, level: Level, first: Expr, links: Vec<Link>) -> Result<Expr, Fault>
     requires { links.items ≢ [] }
-    ensures ok { IfOk result (λ e. (vs : Listed Tree) → Linked vs links.items → Builds (chain_of level) (expr first ∷ vs) (expr e)) }
+    ensures ok { IfOk result (λ e. (vs : Listed Tree) → Linked level vs links.items → Builds (chain_of level) (expr first ∷ vs) (expr e)) }
     ensures err { IfErr result (λ e. e ≡ Fault.Memory) }
 {
     let place = first.place;

@@ -1,7 +1,7 @@
 //! What marks and words mean.
 ghost use Rattle.std.specs.Prelude.{◌≡◌};
 ghost use Rattle.sc_parse.specs.Rules.{marks, word_marks};
-ghost use Rattle.sc_parse.specs.Trees.{binary_of, class_of, number_of, set_of, shift_of, unary_of, word_binary_of};
+ghost use Rattle.sc_parse.specs.Trees.{binary_of, class_of, number_of, set_of, shift_of, step_of, unary_of, word_binary_of};
 
 use crate::expr::Level;
 use crate::word::WordLevel;
@@ -107,7 +107,7 @@ pub fn shift(mark: Mark) -> Option<bool>
     }
 }
 
-/// What a mark does to a number.
+/// How a mark sets a number by a value.
 pub fn set(mark: Mark) -> Option<SetOp>
     ensures { result ≡ set_of mark }
 {
@@ -118,6 +118,15 @@ pub fn set(mark: Mark) -> Option<SetOp>
         Mark::StarEq => Some(SetOp::Mul),
         Mark::SlashEq => Some(SetOp::Div),
         Mark::PercentEq => Some(SetOp::Rem),
+        _ => None,
+    }
+}
+
+/// How a mark sets a number without a value.
+pub fn step(mark: Mark) -> Option<SetOp>
+    ensures { result ≡ step_of mark }
+{
+    match mark {
         Mark::PlusPlus => Some(SetOp::Up),
         Mark::MinusMinus => Some(SetOp::Down),
         _ => None,

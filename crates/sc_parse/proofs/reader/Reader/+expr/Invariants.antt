@@ -1,6 +1,7 @@
 use Rattle.std.proofs.Common.{ℕ, ◌+◌, ◌-◌, ◌*◌, length}
 use Rattle.sc_parse.specs.Input.{input}
-use Rattle.sc_parse.proofs.Chains.{Chained, looseness}
+use Rattle.sc_parse.proofs.Chains.{Chained}
+use Rattle.sc_parse.proofs.Levels.{looseness}
 use Rattle.sc_parse.proofs.reader.Reader.+expr.Given as goal
 
 abbrev pub decreases-expr : goal.decreases-expr

@@ -1,24 +1,23 @@
-use Rattle.std.proofs.Common.{◌≡◌, refl, sym, ◌∙◌, ap, true, None}
-use Rattle.std.specs.List.{list_all}
-use Rattle.std.specs.Option.{is_some}
-use Rattle.sc_parse.specs.declared.expr.Level.{Level}
-use Rattle.sc_parse.specs.declared.expr.Level.TheVariants.{Or, And, Equal, Order, Shift, Sum, Product}
-use Rattle.sc_parse.specs.Rules.{marks}
-use Rattle.sc_parse.specs.Trees.{binary_of}
-use Rattle.sc_parse.proofs.Bools.{clash}
+use Rattle.std.proofs.Common.{sym, ◌∙◌}
+use Rattle.sc_parse.proofs.Levels.{at_level, all_at_level, level-is, no_level}
 use Rattle.sc_parse.proofs.reader.Reader.operator.Goals as goal
-
-all_binary : (l : Level) → list_all (λ m. is_some (binary_of m)) (marks l) ≡ true
-all_binary Or = refl
-all_binary And = refl
-all_binary Equal = refl
-all_binary Order = refl
-all_binary Shift = refl
-all_binary Sum = refl
-all_binary Product = refl
 
 pub unreachable-requires : goal.unreachable-requires
 unreachable-requires c =
-    let some = c.in_ok-mark.ensures.among (λ m. is_some (binary_of m)) (rw c.level_marks.ensures (all_binary c.args.level)) in
-    let none : binary_of c.in_ok-mark.mark ≡ None = sym c.binary.ensures ∙ c.in-None.is in
-    clash _ some (ap is_some none)
+    let some = c.in_ok-mark.ensures.among (at_level c.args.level) (rw c.level_marks.ensures (all_at_level c.args.level)) in
+    no_level c.args.level _ (sym c.binary.ensures ∙ c.in-None.is) some
+
+pub returns : goal.returns
+returns c =
+    let t = c.in_ok-mark.ensures in
+    let some = t.among (at_level c.args.level) (rw c.level_marks.ensures (all_at_level c.args.level)) in
+    let means = sym c.binary.ensures ∙ c.in-Some.is in
+    record {
+      it = t.token.it;
+      mark = c.in_ok-mark.mark;
+      is = t.token.is;
+      means = means;
+      levelled = level-is c.args.level _ c.in-Some.op means some;
+      stands = t.token.stands;
+      takes = rw (← c.level_marks.ensures) t.token.takes;
+    }
