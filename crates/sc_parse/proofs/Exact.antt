@@ -11,7 +11,7 @@ use Rattle.sc_parse.specs.Grammar.{IsShallow}
 use Rattle.sc_parse.proofs.Bools.{clash}
 use Rattle.sc_parse.proofs.Good.{After, Never, NextIn, Good, rule-ok}
 use Rattle.sc_parse.proofs.Fronts.{FrontOf, WholeOf, front_nothing, whole-front, both-split, both-join, both-cut, both-merge, choice-split, left-join, right-join, choice-cut, many-split, many-join, many-cut, nested-split, nested-join, nested-cut, sub-split, sub-join, sub-cut, empty-split, empty-cut, unless-split, unless-cut, one-split, one-cut}
-use Rattle.sc_parse.proofs.Starts.{head, Started, phrase-start, FrontOf-start}
+use Rattle.sc_parse.proofs.Beginnings.{head, Started, phrase-start, FrontOf-start}
 
 -- xs stands at the front of zs
 abbrev pub Begins : List Marked → List Marked → Type 0

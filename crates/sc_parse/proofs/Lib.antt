@@ -2,7 +2,7 @@ pub mod Bools
 pub mod Tables
 pub mod Fronts
 pub mod Good
-pub mod Starts
+pub mod Beginnings
 pub mod Exact
 pub mod Headline
 pub mod Unique
@@ -10,6 +10,12 @@ pub mod Steps
 pub mod Forget
 pub mod Levels
 pub mod Repeats
+pub mod Parts
+pub mod Lists
+pub mod Places
+pub mod Sources
 pub mod Chains
+pub mod WordChains
+pub mod Resizes
 pub mod Sorts
 pub mod Choices

@@ -10,7 +10,7 @@ use Rattle.sc_parse.specs.declared.terminal.Terminal.{Terminal}
 use Rattle.sc_parse.proofs.Bools.{clash}
 use Rattle.sc_parse.proofs.Good.{NextIn, Good, rule-ok}
 use Rattle.sc_parse.proofs.Fronts.{FrontOf, front_nothing, both-split, both-join, choice-split, left-join, right-join, many-split, many-join, nested-split, nested-join, sub-split, sub-join, empty-split, unless-split, one-split}
-use Rattle.sc_parse.proofs.Starts.{FrontOf-start}
+use Rattle.sc_parse.proofs.Beginnings.{FrontOf-start}
 use Rattle.sc_parse.proofs.Headline.{start_good}
 use Rattle.sc_parse.specs.Grammar.{HasOneNesting}
 

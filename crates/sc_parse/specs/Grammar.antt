@@ -3,8 +3,8 @@ use Rattle.std.specs.Prelude.{◌≡◌, ℕ, zero, suc, ◌+◌, ◌≤◌, ◌
 use Rattle.sc_base.specs.declared.Place.{Place}
 use Rattle.sc_syntax.specs.declared.Token.{Token}
 use Rattle.sc_syntax.specs.declared.Source.{Source}
-use Rattle.sc_parse.specs.declared.parse.ParseFault.{ParseFault}
-use Rattle.sc_parse.specs.declared.parse.ParseFault.TheVariants.{Syntax, TooNested, Memory}
+use Rattle.sc_parse.specs.declared.source.ParseFault.{ParseFault}
+use Rattle.sc_parse.specs.declared.source.ParseFault.TheVariants.{Syntax, TooNested, Memory}
 use Rattle.sc_parse.specs.Rules.{source}
 use Rattle.sc_parse.specs.Pieces.{Piece, pieces}
 use Rattle.sc_parse.specs.Phrase.{Marked, bare, Phrase, Front}

@@ -9,3 +9,4 @@ pub mod Input
 pub mod Trees
 pub mod Derives
 pub mod Grammar
+pub mod Faults

@@ -14,8 +14,8 @@ use Rattle.sc_parse.specs.declared.reader.Fault.TheVariants.{Syntax, TooNested, 
 use Rattle.sc_parse.specs.declared.terminal.Terminal.{Terminal}
 use Rattle.sc_parse.specs.Pieces.{Piece}
 use Rattle.sc_parse.specs.Form.{Form, choice, Symbol}
-use Rattle.sc_parse.specs.Trees.{Tree, token, kept, binary_of, word_binary_of, level_of, word_level_of}
-use Rattle.sc_parse.specs.Rules.{operator, word_operator}
+use Rattle.sc_parse.specs.Trees.{Tree, token, kept, binary_of, word_binary_of, level_of, word_level_of, shift_of}
+use Rattle.sc_parse.specs.Rules.{operator, word_operator, shift_marks}
 use Rattle.sc_parse.specs.Runs.{Stack, Outcome, stuck, deep, Runs}
 use Rattle.sc_parse.specs.Derives.{Derives, Builds}
 
@@ -81,6 +81,14 @@ pub record TakesWordBinary (level : WordLevel) (depth : ℕ) (ts : List Piece) (
   pub levelled : word_level_of op ≡ level
   pub stands : it.token.place ≡ place
   pub takes : Takes (word_operator level) depth ts at end (token it ∷ [])
+
+-- A mark that shifts stands there, and is not nested too deep.
+pub record TakesShift (depth : ℕ) (ts : List Piece) (at end : ℕ) (left : Bool) : Type 0 where
+  pub it : Piece
+  pub mark : Mark
+  pub is : it.token.sort ≡ sort.Mark mark
+  pub means : shift_of mark ≡ Some left
+  pub takes : Takes (choice shift_marks) depth ts at end (token it ∷ [])
 
 -- the form is not read from `at` on, whatever is read after it
 pub record Ends (f : Form) (depth : ℕ) (ts : List Piece) (at : ℕ) (o : Outcome) : Type 0 where

@@ -2,11 +2,18 @@
 #![tactic(auto)]
 
 mod expr;
+mod function;
 mod make;
+mod make_modules;
+mod make_stmts;
+mod make_words;
+mod module;
 mod operators;
-mod parse;
 mod reader;
+mod source;
+mod starts;
+mod stmt;
 mod terminal;
 mod word;
 
-pub use parse::ParseFault;
+pub use source::{ParseFault, parse};

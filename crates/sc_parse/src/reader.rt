@@ -17,6 +17,7 @@ pub enum Fault {
 }
 
 /// The tokens of a source. Positions in them are numbers from 0.
+#[derive(Clone, Copy)]
 pub struct Reader<'a> {
     pub alloc: Global,
     pub source: &'a [u8],
@@ -30,8 +31,8 @@ impl Reader<'_> {
     ghost use Rattle.sc_parse.specs.Form as symbol;
     ghost use Rattle.sc_syntax.specs.TokenLists.{text_of};
     ghost use Rattle.sc_syntax.specs.declared.TokenSort.TheVariants as sort;
-    ghost use Rattle.sc_parse.specs.Pieces.{next, piece};
-    ghost use Rattle.sc_parse.specs.Runs.{begins};
+    ghost use Rattle.sc_parse.specs.Pieces.{ahead, next, piece};
+    ghost use Rattle.sc_parse.specs.Runs.{among, begins};
     ghost use Rattle.sc_parse.specs.Reads.{Takes, TakesMark, TakesToken, Fails};
     ghost use Rattle.sc_parse.specs.Trees.{token, name, width};
 
@@ -66,6 +67,13 @@ impl Reader<'_> {
         }
         *at += 1;
         Ok(*token)
+    }
+
+    /// Whether the next token is one that one of the terminals takes.
+    pub fn begins(&self, at: usize, starts: &[Terminal]) -> bool
+        ensures { result ≡ ahead (among starts.now) (next (drop at (input self.now))) }
+    {
+        starts.iter().any(|terminal| self.is_at(at, *terminal))
     }
 
     /// Whether the next token is this mark.
@@ -152,6 +160,21 @@ impl Reader<'_> {
             (Fails (sub symbol.Name) depth (input self.now) at.old) }
     {
         let token = self.take(at, depth, Terminal::Name)?;
+        let text = self.text(token)?;
+        Ok(Name {
+            text,
+            place: token.place,
+        })
+    }
+
+    /// Takes the name `main`.
+    pub fn main_name(&self, at: &mut usize, depth: u32) -> Result<Name, Fault>
+        requires { at.old ≤ length (input self.now) }
+        ensures { MatchResult result
+            (λ n. Takes (sub symbol.MainName) depth (input self.now) at.old at.new (name n ∷ []))
+            (Fails (sub symbol.MainName) depth (input self.now) at.old) }
+    {
+        let token = self.take(at, depth, Terminal::Main)?;
         let text = self.text(token)?;
         Ok(Name {
             text,
