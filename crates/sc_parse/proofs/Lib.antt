@@ -3,6 +3,7 @@ pub mod Tables
 pub mod Fronts
 pub mod Good
 pub mod Beginnings
+pub mod Begins
 pub mod Exact
 pub mod Headline
 pub mod Unique

@@ -1,11 +1,7 @@
 -- Places of tokens.
-use Rattle.std.proofs.Common.{◌≡◌, refl, sym, ◌∙◌, ap, ℕ, zero, suc, ◌+◌, ◌≤◌, ◌<◌, List, [], ◌∷◌, Option, Some, None, length, get_or, arith}
-use Rattle.std.specs.Prelude.{slice_get}
-use Rattle.std.specs.List.{All}
+use Rattle.std.proofs.Common.{◌≡◌, refl, ap, ℕ, zero, suc, ◌≤◌, ◌<◌, List, [], ◌∷◌, length, get_or, arith}
 use Rattle.sc_base.specs.declared.Place.{Place}
 use Rattle.sc_syntax.specs.declared.Token.{Token}
-use Rattle.sc_syntax.specs.TokenLists.{IsRead}
-use Rattle.sc_parse.specs.Pieces.{IsInside}
 use Rattle.sc_parse.specs.Grammar.{end_place, place_at}
 
 -- the place of a token that stands there, read with itself in place of a default
@@ -18,10 +14,3 @@ pub place_past : (text : List ℕ) (tokens : List Token) (a : ℕ) → length to
 place_past text [] a le = refl
 place_past text (x ∷ ts) zero le = absurd (omega arith)
 place_past text (x ∷ ts) (suc a) le = place_past text ts a (omega arith)
-
--- each token that was read lies in its source
-pub inside : (text : List ℕ) (tokens : List Token) → All (IsRead text) tokens → (k : ℕ) (t : Token) → slice_get tokens k ≡ Some t → IsInside text t
-inside text [] h zero t e = cc
-inside text [] h (suc k) t e = cc
-inside text (x ∷ ts) h zero t e = let same : x ≡ t = cc in rw (← same) (h.0.ordered, h.0.within)
-inside text (x ∷ ts) h (suc k) t e = inside text ts h.1 k t e

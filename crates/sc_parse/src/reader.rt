@@ -2,6 +2,7 @@
 ghost use Rattle.std.specs.Prelude.{◌≡◌, ◌≢◌, ℕ, ◌≤◌, ◌<◌, length, drop, slice_get, Some, MatchResult, [], ◌∷◌, find};
 ghost use Rattle.sc_syntax.specs.declared.Token.{Token};
 ghost use Rattle.sc_parse.specs.Pieces.{IsInside};
+ghost use Rattle.std.specs.List.{list_any};
 
 use crate::terminal::{Terminal, accepts, kind_of_token};
 use sc_base::{Place, Text};
@@ -73,7 +74,16 @@ impl Reader<'_> {
     pub fn begins(&self, at: usize, starts: &[Terminal]) -> bool
         ensures { result ≡ ahead (among starts.now) (next (drop at (input self.now))) }
     {
-        starts.iter().any(|terminal| self.is_at(at, *terminal))
+        self.any_at(at, starts)
+    }
+
+    /// Whether one of the terminals takes the next token.
+    fn any_at(&self, at: usize, terminals: &[Terminal]) -> bool
+        ensures { result ≡ list_any (λ t. begins (one t) (next (drop at (input self.now)))) terminals.now }
+    {
+        terminals
+            .iter()
+            .any(|terminal| self.is_at(at, *terminal))
     }
 
     /// Whether the next token is this mark.

@@ -119,7 +119,7 @@ block-returns-in_err-mark-clause-cases t c =
     rw (p.1, p.2) (fails_second c.in_ok-place.ensures.takes.reads (fails_second c.in_ok-items.ensures (c.in_err-mark.ensures)))
 
 pub block-returns-clause-cases : goal.block-returns-clause-cases
-block-returns-clause-cases t c = makes (reads_both c.in_ok-place.ensures.takes.reads (reads_both c.in_ok-items.ensures (c.in_ok-mark.ensures.takes.reads))) (rw (← c.in_ok-place.ensures.stands) (block_is c.in_ok-items.items (kept_end _ c.in_ok-mark.ensures.it ∙ kept-each _)))
+block-returns-clause-cases t c = makes (reads_both c.in_ok-place.ensures.takes.reads (reads_both c.in_ok-items.ensures (c.in_ok-mark.ensures.takes.reads))) (rw (← c.in_ok-place.ensures.stands) (block_is c.in_ok-items.items (kept_end (each stmt c.in_ok-items.items.items) c.in_ok-mark.ensures.it ∙ kept-each c.in_ok-items.items.items)))
 
 pub if_else-returns-in_err-place-clause-cases : goal.if_else-returns-in_err-place-clause-cases
 if_else-returns-in_err-place-clause-cases t c =

@@ -2,7 +2,7 @@ use Rattle.std.proofs.Common.{refl, sym, ◌∙◌, ap, List, [], ◌∷◌, ◌
 use Rattle.std.proofs.lemmas.Grind.{common_steps}
 use Rattle.std.proofs.lemmas.Result.{err_from_is_err_and}
 use Rattle.std.specs.Option.{is_some}
-use Rattle.sc_parse.specs.Trees.{Tree, token, name, width, wire, num, expr, decl, init, stmt, meas, param, part, word_expr, word_param, bind, each, set_of, step_of}
+use Rattle.sc_parse.specs.Trees.{Tree, token, name, width, wire, num, expr, decl, init, stmt, meas, param, part, word_expr, word_param, bind, each, if_there, set_of, step_of}
 use Rattle.sc_parse.specs.Derives.{name_is, width_is, wire_is, num_is, decl_is, init_is, meas_is, start_numbers, start_set, setting_is, wires_is, numbers_is, done_is, empty_is, block_is}
 use Rattle.sc_parse.proofs.Forget.{fits_of}
 use Rattle.sc_parse.proofs.Sorts.{gate_sort, measuring_sort}
@@ -70,4 +70,4 @@ returns-in_err-mark-3 c =
     rw (p.1, p.2) (fails_sub (fails_left b (fails_second c.in_ok-class.ensures.reads (fails_right d (fails_second c.in_ok-name-3.ensures.reads (fails_left x (fails_second c.in_ok-mark-2.ensures.takes.reads (fails_second c.in_ok-size.ensures (c.in_err-mark-3.ensures)))))))))
 
 pub returns : goal.returns
-returns c = let b = sym c.begins.ensures ∙ c.if-not-begins.false in let d = sym c.is_mark.ensures ∙ c.if-is_mark.false in let x = sym c.is_mark-2.ensures ∙ c.if-not-is_mark.false in reads_sub (reads_left b (reads_both c.in_ok-class.ensures.reads (reads_right d (reads_both c.in_ok-name-3.ensures.reads (reads_left x (reads_both c.in_ok-mark-2.ensures.takes.reads (reads_both c.in_ok-size.ensures (c.in_ok-mark-3.ensures.takes.reads)))))))) (array_is (kept_end _ c.in_ok-mark-3.ensures.it ∙ kept-there c.in_ok-size.size))
+returns c = let b = sym c.begins.ensures ∙ c.if-not-begins.false in let d = sym c.is_mark.ensures ∙ c.if-is_mark.false in let x = sym c.is_mark-2.ensures ∙ c.if-not-is_mark.false in reads_sub (reads_left b (reads_both c.in_ok-class.ensures.reads (reads_right d (reads_both c.in_ok-name-3.ensures.reads (reads_left x (reads_both c.in_ok-mark-2.ensures.takes.reads (reads_both c.in_ok-size.ensures (c.in_ok-mark-3.ensures.takes.reads)))))))) (array_is (kept_end (if_there expr c.in_ok-size.size) c.in_ok-mark-3.ensures.it ∙ kept-there c.in_ok-size.size))

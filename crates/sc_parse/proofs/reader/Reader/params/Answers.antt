@@ -24,7 +24,7 @@ pub returns-then-is_word : goal.returns-then-is_word
 returns-then-is_word c = let a = sym c.is_word.ensures ∙ c.if-is_word.true in keeps (reads_left a c.in_ok-word.ensures.takes.reads) (sym (ap (each param) c.new.ensures))
 
 pub returns-then-not-begins : goal.returns-then-not-begins
-returns-then-not-begins c = let a = sym c.is_word.ensures ∙ c.if-is_word.false in let b = sym c.begins.ensures ∙ c.if-not-begins.true in keeps (reads_right a (reads_right b (reads_empty c.requires.within))) (sym (ap (each param) c.new.ensures))
+returns-then-not-begins c = let a = sym c.is_word.ensures ∙ c.if-is_word.false in let b = sym c.begins.ensures ∙ c.if-not-begins.true in keeps (reads_right a (reads_right b (reads_empty c.requires.within))) (sym (ap (each param) c.new-then-not-begins.ensures))
 
 pub returns-in_err-items : goal.returns-in_err-items
 returns-in_err-items c =

@@ -10,8 +10,8 @@ returns-in_err-parts-clause-refused c =
     let p = err_from_is_err_and c.from_residual.result c.from_residual.ensures.1 in
     rw (p.1, p.2) (fault_at _ _ c.in_err-parts.ensures)
 
-pub returns-then-at-tokens-clause-refused : goal.returns-then-at-tokens-clause-refused
-returns-then-at-tokens-clause-refused c =
+pub returns-then-at-self-clause-refused : goal.returns-then-at-self-clause-refused
+returns-then-at-self-clause-refused c =
     let n = length-pieces c.args.self.now.source.now c.args.self.now.tokens.now in
     short_of _ _ _ (omega arith) c.in_ok-parts.ensures
 
