@@ -71,7 +71,7 @@ linked_more l us ls t x no_links k = k
 linked_more l us ls t x (one_link {vs = vs} {ls = ms} i b v e r) k = one_link i b v e (linked_more l vs ms t x r k)
 
 pub chained_more : (l : Level) (d : ℕ) (ts : List Piece) (a m o e : ℕ) (made after : List Link) (x : Link) → Chained l d ts a m made → begins (operator l ⨾ operand l) (next (drop m ts)) ≡ true
-  → TakesBinary l d ts m o x.op x.place → Reads (operand l) d ts o e (expr x.right ∷ []) → after ≡ made ++ x ∷ [] → Chained l d ts a e after
+    → TakesBinary l d ts m o x.op x.place → Reads (operand l) d ts o e (expr x.right ∷ []) → after ≡ made ++ x ∷ [] → Chained l d ts a e after
 chained_more l d ts a m o e made after x c b t r i = record {
   used = c.used ++ token t.it ∷ expr x.right ∷ [];
   linked = subst (λ (ls : List Link). Linked l (c.used ++ token t.it ∷ expr x.right ∷ []) ls) (sym i) (linked_more l c.used made t.it x c.linked (one_link t.is t.means t.levelled (sym t.stands) no_links));
@@ -83,7 +83,7 @@ none_used l us no_links = refl
 
 -- an operand with nothing behind it
 pub chained_none : (l : Level) (d : ℕ) (ts : List Piece) (a m e : ℕ) (head : Expr) (made : List Link) → Reads (operand l) d ts a m (expr head ∷ []) → Chained l d ts m e made
-  → begins (operator l ⨾ operand l) (next (drop e ts)) ≡ false → made ≡ [] → Reads (sub (chain_of l)) d ts a e (expr head ∷ [])
+    → begins (operator l ⨾ operand l) (next (drop e ts)) ≡ false → made ≡ [] → Reads (sub (chain_of l)) d ts a e (expr head ∷ [])
 chained_none l d ts a m e head made r c b i =
     let n = none_used l c.used (subst (λ (ls : List Link). Linked l c.used ls) i c.linked) in
     reads_chain l (reads_as (expr head ∷ []) (ap (λ (us : List Tree). expr head ∷ us) n) (reads_both r (repeats _ _ _ _ _ _ c.repeated b))) (operand_is l)

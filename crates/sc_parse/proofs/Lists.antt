@@ -21,8 +21,8 @@ pub listed_start : {X : Type 0} (f : Form) (wrap : X → Tree) (d : ℕ) (ts : L
 listed_start f wrap d ts a before made le e = record { used = []; same = ap (each wrap) (sym e) ∙ sym (append-nil (each wrap before)); repeated = none_yet _ _ _ _ le }
 
 pub listed_more : {X : Type 0} (f : Form) (wrap : X → Tree) (d : ℕ) (ts : List Piece) (a m o e : ℕ) (t : Piece) (before made : List X) {after : List X} {x : X}
-  → Listed f wrap d ts a m before made → begins (mark marks.Comma ⨾ f) (next (drop m ts)) ≡ true → Reads (mark marks.Comma) d ts m o (token t ∷ []) → Reads f d ts o e (wrap x ∷ [])
-  → ((us : List Tree) → kept (wrap x ∷ us) ≡ wrap x ∷ kept us) → after ≡ made ++ x ∷ [] → Listed f wrap d ts a e before after
+    → Listed f wrap d ts a m before made → begins (mark marks.Comma ⨾ f) (next (drop m ts)) ≡ true → Reads (mark marks.Comma) d ts m o (token t ∷ []) → Reads f d ts o e (wrap x ∷ [])
+    → ((us : List Tree) → kept (wrap x ∷ us) ≡ wrap x ∷ kept us) → after ≡ made ++ x ∷ [] → Listed f wrap d ts a e before after
 listed_more f wrap d ts a m o e t before made {after} {x} l b r q k i = record {
   used = l.used ++ token t ∷ wrap x ∷ [];
   same = ap (each wrap) i ∙ each-append wrap made (x ∷ []) ∙ ap (λ (us : List Tree). us ++ wrap x ∷ []) l.same ∙ append_assoc (each wrap before) (kept l.used) (wrap x ∷ []) ∙ ap (λ (us : List Tree). each wrap before ++ us) (ap (λ (us : List Tree). kept l.used ++ us) (sym (k [])) ∙ sym (kept-append l.used (token t ∷ wrap x ∷ [])));
@@ -30,8 +30,8 @@ listed_more f wrap d ts a m o e t before made {after} {x} l b r q k i = record {
 }
 
 pub listed_keeps : {X : Type 0} (f : Form) (wrap : X → Tree) (d : ℕ) (ts : List Piece) (a m e : ℕ) (before made : List X) (x : X)
-  → Reads f d ts a m (wrap x ∷ []) → Listed f wrap d ts m e before made → begins (mark marks.Comma ⨾ f) (next (drop e ts)) ≡ false → before ≡ x ∷ []
-  → ((us : List Tree) → kept (wrap x ∷ us) ≡ wrap x ∷ kept us) → Keeps (list f) d ts a e (each wrap made)
+    → Reads f d ts a m (wrap x ∷ []) → Listed f wrap d ts m e before made → begins (mark marks.Comma ⨾ f) (next (drop e ts)) ≡ false → before ≡ x ∷ []
+    → ((us : List Tree) → kept (wrap x ∷ us) ≡ wrap x ∷ kept us) → Keeps (list f) d ts a e (each wrap made)
 listed_keeps f wrap d ts a m e before made x r l b i k = record {
   parts = wrap x ∷ l.used;
   reads = reads_both r (repeats _ _ _ _ _ _ l.repeated b);

@@ -74,7 +74,7 @@ kept-binds (b ∷ bs) = ap (λ (us : List Tree). bind b ∷ us) (kept-binds bs)
 
 -- what is kept of a module
 pub kept_module : (h p r : List Tree) (ss : List Stmt) (a b c d : Piece) (n : Name) (ps : List Param) → kept h ≡ name n ∷ [] → kept p ≡ each param ps → kept r ≡ []
-  → kept (h ++ (token a ∷ (p ++ (token b ∷ (token c ∷ (each stmt ss ++ (r ++ (token d ∷ [])))))))) ≡ name n ∷ (each param ps ++ each stmt ss)
+    → kept (h ++ (token a ∷ (p ++ (token b ∷ (token c ∷ (each stmt ss ++ (r ++ (token d ∷ [])))))))) ≡ name n ∷ (each param ps ++ each stmt ss)
 kept_module h p r ss a b c d n ps kh kp kr =
     let last : kept (each stmt ss ++ (r ++ (token d ∷ []))) ≡ each stmt ss = kept-append (each stmt ss) _ ∙ ap (λ (us : List Tree). us ++ kept (r ++ (token d ∷ []))) (kept-each ss) ∙ ap (λ (us : List Tree). each stmt ss ++ us) (kept_end r d ∙ kr) ∙ append-nil (each stmt ss) in
     let middle : kept (p ++ (token b ∷ (token c ∷ (each stmt ss ++ (r ++ (token d ∷ [])))))) ≡ each param ps ++ each stmt ss = kept-append p _ ∙ ap (λ (us : List Tree). us ++ kept (each stmt ss ++ (r ++ (token d ∷ [])))) kp ∙ ap (λ (us : List Tree). each param ps ++ us) last in
@@ -82,7 +82,7 @@ kept_module h p r ss a b c d n ps kh kp kr =
 
 -- what is kept of a classical function
 pub kept_words : (p : List Tree) (a b c d e g h i : Piece) (n : Name) (ps : List WordParam) (w : Width) (bs : List Bind) (x : WordExpr) → kept p ≡ each word_param ps
-  → kept (token a ∷ (name n ∷ (token b ∷ (p ++ (token c ∷ (token d ∷ (width w ∷ (token e ∷ (each bind bs ++ (token g ∷ (word_expr x ∷ (token h ∷ (token i ∷ []))))))))))))) ≡ name n ∷ (each word_param ps ++ width w ∷ (each bind bs ++ word_expr x ∷ []))
+    → kept (token a ∷ (name n ∷ (token b ∷ (p ++ (token c ∷ (token d ∷ (width w ∷ (token e ∷ (each bind bs ++ (token g ∷ (word_expr x ∷ (token h ∷ (token i ∷ []))))))))))))) ≡ name n ∷ (each word_param ps ++ width w ∷ (each bind bs ++ word_expr x ∷ []))
 kept_words p a b c d e g h i n ps w bs x kp =
     let rest : List Tree = token c ∷ (token d ∷ (width w ∷ (token e ∷ (each bind bs ++ (token g ∷ (word_expr x ∷ (token h ∷ (token i ∷ [])))))))) in
     let last : kept (each bind bs ++ (token g ∷ (word_expr x ∷ (token h ∷ (token i ∷ []))))) ≡ each bind bs ++ word_expr x ∷ [] = kept-append (each bind bs) _ ∙ ap (λ (us : List Tree). us ++ word_expr x ∷ []) (kept-binds bs) in

@@ -67,7 +67,7 @@ linked_more l us ls t x no_links k = k
 linked_more l us ls t x (one_link {vs = vs} {ls = ms} i b v e r) k = one_link i b v e (linked_more l vs ms t x r k)
 
 pub chained_more : (l : WordLevel) (d : ℕ) (ts : List Piece) (a m o e : ℕ) (made after : List WordLink) (x : WordLink) → WordChained l d ts a m made → begins (word_operator l ⨾ word_operand l) (next (drop m ts)) ≡ true
-  → TakesWordBinary l d ts m o x.op x.place → Reads (word_operand l) d ts o e (word_expr x.right ∷ []) → after ≡ made ++ x ∷ [] → WordChained l d ts a e after
+    → TakesWordBinary l d ts m o x.op x.place → Reads (word_operand l) d ts o e (word_expr x.right ∷ []) → after ≡ made ++ x ∷ [] → WordChained l d ts a e after
 chained_more l d ts a m o e made after x c b t r i = record {
   used = c.used ++ token t.it ∷ word_expr x.right ∷ [];
   linked = subst (λ (ls : List WordLink). WordLinked l (c.used ++ token t.it ∷ word_expr x.right ∷ []) ls) (sym i) (linked_more l c.used made t.it x c.linked (one_link t.is t.means t.levelled (sym t.stands) no_links));
@@ -79,7 +79,7 @@ none_used l us no_links = refl
 
 -- an operand with nothing behind it
 pub chained_none : (l : WordLevel) (d : ℕ) (ts : List Piece) (a m e : ℕ) (head : WordExpr) (made : List WordLink) → Reads (word_operand l) d ts a m (word_expr head ∷ []) → WordChained l d ts m e made
-  → begins (word_operator l ⨾ word_operand l) (next (drop e ts)) ≡ false → made ≡ [] → Reads (sub (word_chain_of l)) d ts a e (word_expr head ∷ [])
+    → begins (word_operator l ⨾ word_operand l) (next (drop e ts)) ≡ false → made ≡ [] → Reads (sub (word_chain_of l)) d ts a e (word_expr head ∷ [])
 chained_none l d ts a m e head made r c b i =
     let n = none_used l c.used (subst (λ (ls : List WordLink). WordLinked l c.used ls) i c.linked) in
     reads_chain l (reads_as (word_expr head ∷ []) (ap (λ (us : List Tree). word_expr head ∷ us) n) (reads_both r (repeats _ _ _ _ _ _ c.repeated b))) (word_operand_is l)
@@ -98,8 +98,8 @@ shift_linked_more us ls t x no_links k = k
 shift_linked_more us ls t x (one_link {vs = vs} {ls = ms} i b r) k = one_link i b (shift_linked_more vs ms t x r k)
 
 pub shifted_more : (d : ℕ) (ts : List Piece) (a m o e : ℕ) (made after : List ShiftLink) (to_left : Bool) (by : WidthTree) (x : ShiftLink) → x.left ≡ to_left → x.by ≡ by → Shifted d ts a m made
-  → begins (choice shift_marks ⨾ sub symbol.Width) (next (drop m ts)) ≡ true
-  → TakesShift d ts m o to_left → Reads (sub symbol.Width) d ts o e (width by ∷ []) → after ≡ made ++ x ∷ [] → Shifted d ts a e after
+    → begins (choice shift_marks ⨾ sub symbol.Width) (next (drop m ts)) ≡ true
+    → TakesShift d ts m o to_left → Reads (sub symbol.Width) d ts o e (width by ∷ []) → after ≡ made ++ x ∷ [] → Shifted d ts a e after
 shifted_more d ts a m o e made after to_left by x l w c b t r i = record {
   used = c.used ++ token t.it ∷ width x.by ∷ [];
   linked = subst (λ (ls : List ShiftLink). ShiftLinked (c.used ++ token t.it ∷ width x.by ∷ []) ls) (sym i) (shift_linked_more c.used made t.it x c.linked (one_link t.is (t.means ∙ ap (λ (y : Bool). Some y) (sym l)) no_links));
@@ -110,7 +110,7 @@ none_shifted : (us : List Tree) → ShiftLinked us [] → us ≡ []
 none_shifted us no_links = refl
 
 pub shifted_none : (d : ℕ) (ts : List Piece) (a m e : ℕ) (head : WordExpr) (made : List ShiftLink) → Reads (sub symbol.WSum) d ts a m (word_expr head ∷ []) → Shifted d ts m e made
-  → begins (choice shift_marks ⨾ sub symbol.Width) (next (drop e ts)) ≡ false → made ≡ [] → Reads (sub symbol.WShift) d ts a e (word_expr head ∷ [])
+    → begins (choice shift_marks ⨾ sub symbol.Width) (next (drop e ts)) ≡ false → made ≡ [] → Reads (sub symbol.WShift) d ts a e (word_expr head ∷ [])
 shifted_none d ts a m e head made r c b i =
     let n = none_shifted c.used (subst (λ (ls : List ShiftLink). ShiftLinked c.used ls) i c.linked) in
     reads_sub (reads_as (word_expr head ∷ []) (ap (λ (us : List Tree). word_expr head ∷ us) n) (reads_both r (repeats _ _ _ _ _ _ c.repeated b))) word_sum_is

@@ -142,7 +142,6 @@ pub data Builds : Symbol → List Tree → Tree → Type 0 where
   int_param_is : {p : Place} {n : Name} → Builds symbol.Param (num number.Int p ∷ name n ∷ []) (param (record { name = n; sort = psort.Int }))
   double_param_is : {p : Place} {n : Name} → Builds symbol.Param (num number.Double p ∷ name n ∷ []) (param (record { name = n; sort = psort.Double }))
   module_is : {vs : List Tree} {x : ModuleTree} → kept vs ≡ name x.name ∷ (each param x.params ++ each stmt x.body) → Builds symbol.Module vs (part (part_of.Module x))
-
   -- classical functions
   word_int_is : {t : Piece} {n : ℤ} → t.token.sort ≡ sort.Int n → Builds symbol.WPrim (token t ∷ []) (word_expr (word_at t.token.place (wnode.Int n)))
   word_name_is : {t : Piece} → t.token.sort ≡ sort.Name → Builds symbol.WPrim (token t ∷ []) (word_expr (word_at t.token.place (wnode.Name t.text)))

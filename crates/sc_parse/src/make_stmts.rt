@@ -11,7 +11,9 @@ use crate::make::boxed;
 use crate::operators;
 use crate::reader::Fault;
 use sc_base::{GateName, List, Place};
-use sc_syntax::{Act, Call, Callee, Expr, Mark, Measure, Name, Operand, Set, Stmt, Token, TokenSort};
+use sc_syntax::{
+    Act, Call, Callee, Expr, Mark, Measure, Name, Operand, Set, Stmt, Token, TokenSort,
+};
 use std::alloc::Global;
 
 /// A name, a mark and a value.

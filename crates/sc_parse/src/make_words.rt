@@ -78,7 +78,12 @@ pub fn pick(alloc: Global, test: WordExpr, yes: WordExpr, no: WordExpr) -> Resul
 }
 
 /// An operand and the links behind it.
-pub fn links(alloc: Global, level: WordLevel, first: WordExpr, links: Vec<WordLink>) -> Result<WordExpr, Fault>
+pub fn links(
+    alloc: Global,
+    level: WordLevel,
+    first: WordExpr,
+    links: Vec<WordLink>,
+) -> Result<WordExpr, Fault>
     requires { links.items ≢ [] }
     ensures ok { IfOk result (λ e. (vs : Listed Tree) → WordLinked level vs links.items → Builds (word_chain_of level) (word_expr first ∷ vs) (word_expr e)) }
     ensures err { IfErr result (λ e. e ≡ Fault.Memory) }
@@ -120,7 +125,13 @@ pub fn int(token: Token) -> WordExpr
 }
 
 /// `ext(inner, width)` or `low(inner, width)`.
-pub fn resized(alloc: Global, place: Place, text: Text, inner: WordExpr, width: Width) -> Result<WordExpr, Fault>
+pub fn resized(
+    alloc: Global,
+    place: Place,
+    text: Text,
+    inner: WordExpr,
+    width: Width,
+) -> Result<WordExpr, Fault>
     ensures ok { IfOk result (λ e. (t u v x : Piece) → t.token.place ≡ place → t.token.sort ≡ sort.Name → t.text ≡ text → (is_ext (kind t) ≡ false → is_low (kind t) ≡ true)
         → Builds symbol.WPrim (token_part t ∷ token_part u ∷ word_expr inner ∷ token_part v ∷ width_part width ∷ token_part x ∷ []) (word_expr e)) }
     ensures err { IfErr result (λ e. e ≡ Fault.Memory) }

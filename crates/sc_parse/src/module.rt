@@ -1,11 +1,10 @@
 //! Modules.
 ghost use Rattle.std.specs.Prelude.{◌≡◌, ◌≤◌, ◌<◌, [], ◌∷◌, length, MatchResult, OnOk};
 
-use crate::make;
-use crate::make_modules;
 use crate::reader::{Fault, Reader};
 use crate::starts::{PARAM, WIRE};
 use crate::terminal::Terminal;
+use crate::{make, make_modules};
 use sc_base::List;
 use sc_syntax::{Mark, Module, Name, Param, Part, Sort, Word};
 

@@ -18,7 +18,13 @@ pub const SHIFTS: &[Mark] = &[Mark::ShiftLeft, Mark::ShiftRight];
 pub const STEPS: &[Mark] = &[Mark::PlusPlus, Mark::MinusMinus];
 
 /// The marks that compute and set.
-pub const COMPOUNDS: &[Mark] = &[Mark::PlusEq, Mark::MinusEq, Mark::StarEq, Mark::SlashEq, Mark::PercentEq];
+pub const COMPOUNDS: &[Mark] = &[
+    Mark::PlusEq,
+    Mark::MinusEq,
+    Mark::StarEq,
+    Mark::SlashEq,
+    Mark::PercentEq,
+];
 
 /// The class of wires that a word declares.
 pub fn class(word: Word) -> Option<Class>

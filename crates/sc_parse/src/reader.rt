@@ -81,9 +81,7 @@ impl Reader<'_> {
     fn any_at(&self, at: usize, terminals: &[Terminal]) -> bool
         ensures { result ≡ list_any (λ t. begins (one t) (next (drop at (input self.now)))) terminals.now }
     {
-        terminals
-            .iter()
-            .any(|terminal| self.is_at(at, *terminal))
+        terminals.iter().any(|terminal| self.is_at(at, *terminal))
     }
 
     /// Whether the next token is this mark.
@@ -156,7 +154,10 @@ impl Reader<'_> {
         requires { IsInside self.now.source.now token }
         ensures { MatchResult result (λ t. t ≡ text_of self.now.source.now token) (λ e. e ≡ Fault.Memory) }
     {
-        match Text::from_bytes(self.alloc, &self.source[token.start as usize..token.end as usize]) {
+        match Text::from_bytes(
+            self.alloc,
+            &self.source[token.start as usize..token.end as usize],
+        ) {
             Ok(text) => Ok(text),
             Err(_) => Err(Fault::Memory),
         }

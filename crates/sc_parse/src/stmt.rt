@@ -8,9 +8,7 @@ use crate::reader::{Fault, Reader};
 use crate::starts::{EXPR, MEASURE, NAME, NUMBER, SET, START, STMT, WIRE};
 use crate::terminal::Terminal;
 use sc_base::{Class, GateName, List, Place};
-use sc_syntax::{
-    Act, Decl, Expr, Init, Mark, Name, NumSort, Operand, Stmt, TokenSort, Word,
-};
+use sc_syntax::{Act, Decl, Expr, Init, Mark, Name, NumSort, Operand, Stmt, TokenSort, Word};
 
 impl Reader<'_> {
     ghost use Rattle.sc_parse.specs.Form as symbol;

@@ -40,7 +40,12 @@ impl Reader<'_> {
     }
 
     /// Takes an operator of the level.
-    fn word_operator(&self, at: &mut usize, depth: u32, level: WordLevel) -> Result<(WordOp, Place), Fault>
+    fn word_operator(
+        &self,
+        at: &mut usize,
+        depth: u32,
+        level: WordLevel,
+    ) -> Result<(WordOp, Place), Fault>
         requires { at.old ≤ length (input self.now) }
         ensures { MatchResult result
             (λ r. TakesWordBinary level depth (input self.now) at.old at.new r.0 r.1)

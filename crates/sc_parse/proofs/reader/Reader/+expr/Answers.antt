@@ -13,7 +13,7 @@ use Rattle.sc_parse.proofs.reader.Reader.+expr.Goals as goal
 
 pub expr-returns-in_err-test : goal.expr-returns-in_err-test
 expr-returns-in_err-test t c =
-    let p = err_from_is_err_and c.from_residual.result c.from_residual.ensures.1 in 
+    let p = err_from_is_err_and c.from_residual.result c.from_residual.ensures.1 in
     rw (p.1, p.2) (fails_sub (fails_nested (fails_first (c.in_err-test.ensures))))
 
 pub expr-returns-then-not-is_mark : goal.expr-returns-then-not-is_mark
@@ -21,22 +21,22 @@ expr-returns-then-not-is_mark t c = let b = sym c.is_mark.ensures ∙ c.if-not-i
 
 pub expr-returns-in_err-mark : goal.expr-returns-in_err-mark
 expr-returns-in_err-mark t c =
-    let p = err_from_is_err_and c.from_residual-in_err-mark.result c.from_residual-in_err-mark.ensures.1 in let b = sym c.is_mark.ensures ∙ c.if-not-is_mark.false in 
+    let p = err_from_is_err_and c.from_residual-in_err-mark.result c.from_residual-in_err-mark.ensures.1 in let b = sym c.is_mark.ensures ∙ c.if-not-is_mark.false in
     rw (p.1, p.2) (fails_sub (fails_nested (fails_second c.in_ok-test.ensures (fails_left b (fails_first (c.in_err-mark.ensures))))))
 
 pub expr-returns-in_err-yes : goal.expr-returns-in_err-yes
 expr-returns-in_err-yes t c =
-    let p = err_from_is_err_and c.from_residual-in_err-yes.result c.from_residual-in_err-yes.ensures.1 in let b = sym c.is_mark.ensures ∙ c.if-not-is_mark.false in 
+    let p = err_from_is_err_and c.from_residual-in_err-yes.result c.from_residual-in_err-yes.ensures.1 in let b = sym c.is_mark.ensures ∙ c.if-not-is_mark.false in
     rw (p.1, p.2) (fails_sub (fails_nested (fails_second c.in_ok-test.ensures (fails_left b (fails_second c.in_ok-mark.ensures.takes.reads (fails_first (c.in_err-yes.ensures)))))))
 
 pub expr-returns-in_err-mark-2 : goal.expr-returns-in_err-mark-2
 expr-returns-in_err-mark-2 t c =
-    let p = err_from_is_err_and c.from_residual-in_err-mark-2.result c.from_residual-in_err-mark-2.ensures.1 in let b = sym c.is_mark.ensures ∙ c.if-not-is_mark.false in 
+    let p = err_from_is_err_and c.from_residual-in_err-mark-2.result c.from_residual-in_err-mark-2.ensures.1 in let b = sym c.is_mark.ensures ∙ c.if-not-is_mark.false in
     rw (p.1, p.2) (fails_sub (fails_nested (fails_second c.in_ok-test.ensures (fails_left b (fails_second c.in_ok-mark.ensures.takes.reads (fails_second c.in_ok-yes.ensures (fails_first (c.in_err-mark-2.ensures))))))))
 
 pub expr-returns-in_err-no : goal.expr-returns-in_err-no
 expr-returns-in_err-no t c =
-    let p = err_from_is_err_and c.from_residual-in_err-no.result c.from_residual-in_err-no.ensures.1 in let b = sym c.is_mark.ensures ∙ c.if-not-is_mark.false in 
+    let p = err_from_is_err_and c.from_residual-in_err-no.result c.from_residual-in_err-no.ensures.1 in let b = sym c.is_mark.ensures ∙ c.if-not-is_mark.false in
     rw (p.1, p.2) (fails_sub (fails_nested (fails_second c.in_ok-test.ensures (fails_left b (fails_second c.in_ok-mark.ensures.takes.reads (fails_second c.in_ok-yes.ensures (fails_second c.in_ok-mark-2.ensures.takes.reads (c.in_err-no.ensures))))))))
 
 pub expr-returns-in_err-made : goal.expr-returns-in_err-made
@@ -49,7 +49,7 @@ expr-returns t c = let b = sym c.is_mark.ensures ∙ c.if-not-is_mark.false in r
 
 pub chain-returns-in_err-first : goal.chain-returns-in_err-first
 chain-returns-in_err-first t c =
-    let p = err_from_is_err_and c.from_residual.result c.from_residual.ensures.1 in 
+    let p = err_from_is_err_and c.from_residual.result c.from_residual.ensures.1 in
     rw (p.1, p.2) (fails_chain c.args.level (fails_first (c.in_err-first.ensures)))
 
 pub chain-links-init : goal.chain-links-init
@@ -57,12 +57,12 @@ chain-links-init t c = chained_start c.args.level _ _ _ _ c.in_ok-first.ensures.
 
 pub chain-returns-in_err-op : goal.chain-returns-in_err-op
 chain-returns-in_err-op t c =
-    let p = err_from_is_err_and c.from_residual-in_err-op.result c.from_residual-in_err-op.ensures.1 in let b0 = sym c.is_operator.ensures ∙ c.links-test.true in let b = link_begins c.args.level _ ∙ b0 in 
+    let p = err_from_is_err_and c.from_residual-in_err-op.result c.from_residual-in_err-op.ensures.1 in let b0 = sym c.is_operator.ensures ∙ c.links-test.true in let b = link_begins c.args.level _ ∙ b0 in
     rw (p.1, p.2) (fails_chain c.args.level (fails_second c.in_ok-first.ensures (repeats_not _ _ _ _ _ _ _ c.links.invariant.repeated b (fails_first (c.in_err-op.ensures)))))
 
 pub chain-returns-in_err-right : goal.chain-returns-in_err-right
 chain-returns-in_err-right t c =
-    let p = err_from_is_err_and c.from_residual-in_err-right.result c.from_residual-in_err-right.ensures.1 in let b0 = sym c.is_operator.ensures ∙ c.links-test.true in let b = link_begins c.args.level _ ∙ b0 in 
+    let p = err_from_is_err_and c.from_residual-in_err-right.result c.from_residual-in_err-right.ensures.1 in let b0 = sym c.is_operator.ensures ∙ c.links-test.true in let b = link_begins c.args.level _ ∙ b0 in
     rw (p.1, p.2) (fails_chain c.args.level (fails_second c.in_ok-first.ensures (repeats_not _ _ _ _ _ _ _ c.links.invariant.repeated b (fails_second c.in_ok-op.ensures.takes.reads (c.in_err-right.ensures)))))
 
 pub chain-returns-in_err-push_vec : goal.chain-returns-in_err-push_vec
@@ -86,7 +86,7 @@ chain-returns t c = let b0 = sym c.is_operator.ensures ∙ c.links-test.false in
 
 pub unary-returns-in_err-made : goal.unary-returns-in_err-made
 unary-returns-in_err-made t c =
-    let p = err_from_is_err_and c.from_residual.result c.from_residual.ensures.1 in let b = sym c.is_one_of.ensures ∙ c.if-not-is_one_of.true in 
+    let p = err_from_is_err_and c.from_residual.result c.from_residual.ensures.1 in let b = sym c.is_one_of.ensures ∙ c.if-not-is_one_of.true in
     rw (p.1, p.2) (fails_sub (fails_right b (c.in_err-made.ensures)))
 
 pub unary-returns-then-not-is_one_of : goal.unary-returns-then-not-is_one_of
@@ -94,12 +94,12 @@ unary-returns-then-not-is_one_of t c = let b = sym c.is_one_of.ensures ∙ c.if-
 
 pub unary-returns-in_err-mark : goal.unary-returns-in_err-mark
 unary-returns-in_err-mark t c =
-    let p = err_from_is_err_and c.from_residual-in_err-mark.result c.from_residual-in_err-mark.ensures.1 in let b = sym c.is_one_of.ensures ∙ c.if-not-is_one_of.false in 
+    let p = err_from_is_err_and c.from_residual-in_err-mark.result c.from_residual-in_err-mark.ensures.1 in let b = sym c.is_one_of.ensures ∙ c.if-not-is_one_of.false in
     rw (p.1, p.2) (fails_sub (fails_left b (fails_nested (fails_first (c.in_err-mark.ensures)))))
 
 pub unary-returns-in_err-operand : goal.unary-returns-in_err-operand
 unary-returns-in_err-operand t c =
-    let p = err_from_is_err_and c.from_residual-in_err-operand.result c.from_residual-in_err-operand.ensures.1 in let b = sym c.is_one_of.ensures ∙ c.if-not-is_one_of.false in 
+    let p = err_from_is_err_and c.from_residual-in_err-operand.result c.from_residual-in_err-operand.ensures.1 in let b = sym c.is_one_of.ensures ∙ c.if-not-is_one_of.false in
     rw (p.1, p.2) (fails_sub (fails_left b (fails_nested (fails_second c.in_ok-mark.ensures.token.takes.reads (c.in_err-operand.ensures)))))
 
 pub unary-sign-requires : goal.unary-sign-requires
@@ -115,7 +115,7 @@ unary-returns t c = let b = sym c.is_one_of.ensures ∙ c.if-not-is_one_of.false
 
 pub prim-returns-in_err-token : goal.prim-returns-in_err-token
 prim-returns-in_err-token t c =
-    let p = err_from_is_err_and c.from_residual.result c.from_residual.ensures.1 in let a = sym c.is_at.ensures ∙ c.if-is_at.true in 
+    let p = err_from_is_err_and c.from_residual.result c.from_residual.ensures.1 in let a = sym c.is_at.ensures ∙ c.if-is_at.true in
     rw (p.1, p.2) (fails_sub (fails_left a (c.in_err-token.ensures)))
 
 pub prim-int-made-requires : goal.prim-int-made-requires
@@ -126,7 +126,7 @@ prim-returns-then-is_at t c = let a = sym c.is_at.ensures ∙ c.if-is_at.true in
 
 pub prim-returns-in_err-token-2 : goal.prim-returns-in_err-token-2
 prim-returns-in_err-token-2 t c =
-    let p = err_from_is_err_and c.from_residual-in_err-token-2.result c.from_residual-in_err-token-2.ensures.1 in let a = sym c.is_at.ensures ∙ c.if-is_at.false in let b = sym c.is_at-2.ensures ∙ c.if-is_at-2.true in 
+    let p = err_from_is_err_and c.from_residual-in_err-token-2.result c.from_residual-in_err-token-2.ensures.1 in let a = sym c.is_at.ensures ∙ c.if-is_at.false in let b = sym c.is_at-2.ensures ∙ c.if-is_at-2.true in
     rw (p.1, p.2) (fails_sub (fails_right a (fails_left b (c.in_err-token-2.ensures))))
 
 pub prim-decimal-made-requires : goal.prim-decimal-made-requires
@@ -137,12 +137,12 @@ prim-returns-then-is_at-2 t c = let a = sym c.is_at.ensures ∙ c.if-is_at.false
 
 pub prim-returns-in_err-name : goal.prim-returns-in_err-name
 prim-returns-in_err-name t c =
-    let p = err_from_is_err_and c.from_residual-in_err-name.result c.from_residual-in_err-name.ensures.1 in let a = sym c.is_at.ensures ∙ c.if-is_at.false in let b = sym c.is_at-2.ensures ∙ c.if-is_at-2.false in let d = name_begins _ ∙ sym c.is_at-3.ensures ∙ c.if-is_at-3.true in 
+    let p = err_from_is_err_and c.from_residual-in_err-name.result c.from_residual-in_err-name.ensures.1 in let a = sym c.is_at.ensures ∙ c.if-is_at.false in let b = sym c.is_at-2.ensures ∙ c.if-is_at-2.false in let d = name_begins _ ∙ sym c.is_at-3.ensures ∙ c.if-is_at-3.true in
     rw (p.1, p.2) (fails_sub (fails_right a (fails_right b (fails_left d (fails_first (c.in_err-name.ensures))))))
 
 pub prim-returns-in_err-index : goal.prim-returns-in_err-index
 prim-returns-in_err-index t c =
-    let p = err_from_is_err_and c.from_residual-in_err-index.result c.from_residual-in_err-index.ensures.1 in let a = sym c.is_at.ensures ∙ c.if-is_at.false in let b = sym c.is_at-2.ensures ∙ c.if-is_at-2.false in let d = name_begins _ ∙ sym c.is_at-3.ensures ∙ c.if-is_at-3.true in 
+    let p = err_from_is_err_and c.from_residual-in_err-index.result c.from_residual-in_err-index.ensures.1 in let a = sym c.is_at.ensures ∙ c.if-is_at.false in let b = sym c.is_at-2.ensures ∙ c.if-is_at-2.false in let d = name_begins _ ∙ sym c.is_at-3.ensures ∙ c.if-is_at-3.true in
     rw (p.1, p.2) (fails_sub (fails_right a (fails_right b (fails_left d (fails_second c.in_ok-name.ensures.reads (c.in_err-index.ensures))))))
 
 pub prim-returns-in_err-made : goal.prim-returns-in_err-made
@@ -155,17 +155,17 @@ prim-returns-then-is_at-3 t c = let a = sym c.is_at.ensures ∙ c.if-is_at.false
 
 pub prim-returns-in_err-place : goal.prim-returns-in_err-place
 prim-returns-in_err-place t c =
-    let p = err_from_is_err_and c.from_residual-in_err-place.result c.from_residual-in_err-place.ensures.1 in let a = sym c.is_at.ensures ∙ c.if-is_at.false in let b = sym c.is_at-2.ensures ∙ c.if-is_at-2.false in let d = name_begins _ ∙ sym c.is_at-3.ensures ∙ c.if-is_at-3.false in 
+    let p = err_from_is_err_and c.from_residual-in_err-place.result c.from_residual-in_err-place.ensures.1 in let a = sym c.is_at.ensures ∙ c.if-is_at.false in let b = sym c.is_at-2.ensures ∙ c.if-is_at-2.false in let d = name_begins _ ∙ sym c.is_at-3.ensures ∙ c.if-is_at-3.false in
     rw (p.1, p.2) (fails_sub (fails_right a (fails_right b (fails_right d (fails_first (c.in_err-place.ensures))))))
 
 pub prim-returns-in_err-inner : goal.prim-returns-in_err-inner
 prim-returns-in_err-inner t c =
-    let p = err_from_is_err_and c.from_residual-in_err-inner.result c.from_residual-in_err-inner.ensures.1 in let a = sym c.is_at.ensures ∙ c.if-is_at.false in let b = sym c.is_at-2.ensures ∙ c.if-is_at-2.false in let d = name_begins _ ∙ sym c.is_at-3.ensures ∙ c.if-is_at-3.false in 
+    let p = err_from_is_err_and c.from_residual-in_err-inner.result c.from_residual-in_err-inner.ensures.1 in let a = sym c.is_at.ensures ∙ c.if-is_at.false in let b = sym c.is_at-2.ensures ∙ c.if-is_at-2.false in let d = name_begins _ ∙ sym c.is_at-3.ensures ∙ c.if-is_at-3.false in
     rw (p.1, p.2) (fails_sub (fails_right a (fails_right b (fails_right d (fails_second c.in_ok-place.ensures.takes.reads (fails_first (c.in_err-inner.ensures)))))))
 
 pub prim-returns-in_err-mark : goal.prim-returns-in_err-mark
 prim-returns-in_err-mark t c =
-    let p = err_from_is_err_and c.from_residual-in_err-mark.result c.from_residual-in_err-mark.ensures.1 in let a = sym c.is_at.ensures ∙ c.if-is_at.false in let b = sym c.is_at-2.ensures ∙ c.if-is_at-2.false in let d = name_begins _ ∙ sym c.is_at-3.ensures ∙ c.if-is_at-3.false in 
+    let p = err_from_is_err_and c.from_residual-in_err-mark.result c.from_residual-in_err-mark.ensures.1 in let a = sym c.is_at.ensures ∙ c.if-is_at.false in let b = sym c.is_at-2.ensures ∙ c.if-is_at-2.false in let d = name_begins _ ∙ sym c.is_at-3.ensures ∙ c.if-is_at-3.false in
     rw (p.1, p.2) (fails_sub (fails_right a (fails_right b (fails_right d (fails_second c.in_ok-place.ensures.takes.reads (fails_second c.in_ok-inner.ensures (c.in_err-mark.ensures)))))))
 
 pub prim-returns-in_err-made-2 : goal.prim-returns-in_err-made-2
@@ -181,17 +181,17 @@ index-returns-then-not-is_mark t c = let b = sym c.is_mark.ensures ∙ c.if-not-
 
 pub index-returns-in_err-mark : goal.index-returns-in_err-mark
 index-returns-in_err-mark t c =
-    let p = err_from_is_err_and c.from_residual.result c.from_residual.ensures.1 in let b = sym c.is_mark.ensures ∙ c.if-not-is_mark.false in 
+    let p = err_from_is_err_and c.from_residual.result c.from_residual.ensures.1 in let b = sym c.is_mark.ensures ∙ c.if-not-is_mark.false in
     rw (p.1, p.2) (fails_left b (fails_first (c.in_err-mark.ensures)))
 
 pub index-returns-in_err-index : goal.index-returns-in_err-index
 index-returns-in_err-index t c =
-    let p = err_from_is_err_and c.from_residual-in_err-index.result c.from_residual-in_err-index.ensures.1 in let b = sym c.is_mark.ensures ∙ c.if-not-is_mark.false in 
+    let p = err_from_is_err_and c.from_residual-in_err-index.result c.from_residual-in_err-index.ensures.1 in let b = sym c.is_mark.ensures ∙ c.if-not-is_mark.false in
     rw (p.1, p.2) (fails_left b (fails_second c.in_ok-mark.ensures.takes.reads (fails_first (c.in_err-index.ensures))))
 
 pub index-returns-in_err-mark-2 : goal.index-returns-in_err-mark-2
 index-returns-in_err-mark-2 t c =
-    let p = err_from_is_err_and c.from_residual-in_err-mark-2.result c.from_residual-in_err-mark-2.ensures.1 in let b = sym c.is_mark.ensures ∙ c.if-not-is_mark.false in 
+    let p = err_from_is_err_and c.from_residual-in_err-mark-2.result c.from_residual-in_err-mark-2.ensures.1 in let b = sym c.is_mark.ensures ∙ c.if-not-is_mark.false in
     rw (p.1, p.2) (fails_left b (fails_second c.in_ok-mark.ensures.takes.reads (fails_second c.in_ok-index.ensures (c.in_err-mark-2.ensures))))
 
 pub index-returns : goal.index-returns

@@ -17,7 +17,7 @@ use Rattle.sc_parse.proofs.reader.Reader.+stmt.Goals as goal
 
 pub stmt-returns-in_err-made-clause-cases : goal.stmt-returns-in_err-made-clause-cases
 stmt-returns-in_err-made-clause-cases t c =
-    let p = err_from_is_err_and c.from_residual.result c.from_residual.ensures.1 in let b0 = sym c.begins.ensures ∙ c.if-begins.true in 
+    let p = err_from_is_err_and c.from_residual.result c.from_residual.ensures.1 in let b0 = sym c.begins.ensures ∙ c.if-begins.true in
     rw (p.1, p.2) (fails_sub (fails_nested (fails_left b0 (c.in_err-made.ensures.cases))))
 
 pub stmt-returns-then-begins-clause-cases : goal.stmt-returns-then-begins-clause-cases
@@ -25,7 +25,7 @@ stmt-returns-then-begins-clause-cases t c = let b0 = sym c.begins.ensures ∙ c.
 
 pub stmt-returns-in_err-made-2-clause-cases : goal.stmt-returns-in_err-made-2-clause-cases
 stmt-returns-in_err-made-2-clause-cases t c =
-    let p = err_from_is_err_and c.from_residual-in_err-made-2.result c.from_residual-in_err-made-2.ensures.1 in let b0 = sym c.begins.ensures ∙ c.if-begins.false in let b1 = sym c.begins-2.ensures ∙ c.if-begins-2.true in 
+    let p = err_from_is_err_and c.from_residual-in_err-made-2.result c.from_residual-in_err-made-2.ensures.1 in let b0 = sym c.begins.ensures ∙ c.if-begins.false in let b1 = sym c.begins-2.ensures ∙ c.if-begins-2.true in
     rw (p.1, p.2) (fails_sub (fails_nested (fails_right b0 (fails_left b1 (c.in_err-made-2.ensures.cases)))))
 
 pub stmt-returns-then-begins-2-clause-cases : goal.stmt-returns-then-begins-2-clause-cases
@@ -33,7 +33,7 @@ stmt-returns-then-begins-2-clause-cases t c = let b0 = sym c.begins.ensures ∙ 
 
 pub stmt-returns-in_err-place-clause-cases : goal.stmt-returns-in_err-place-clause-cases
 stmt-returns-in_err-place-clause-cases t c =
-    let p = err_from_is_err_and c.from_residual-in_err-place.result c.from_residual-in_err-place.ensures.1 in let b0 = sym c.begins.ensures ∙ c.if-begins.false in let b1 = sym c.begins-2.ensures ∙ c.if-begins-2.false in let b2 = sym c.is_mark.ensures ∙ c.if-is_mark.true in 
+    let p = err_from_is_err_and c.from_residual-in_err-place.result c.from_residual-in_err-place.ensures.1 in let b0 = sym c.begins.ensures ∙ c.if-begins.false in let b1 = sym c.begins-2.ensures ∙ c.if-begins-2.false in let b2 = sym c.is_mark.ensures ∙ c.if-is_mark.true in
     rw (p.1, p.2) (fails_sub (fails_nested (fails_right b0 (fails_right b1 (fails_left b2 (c.in_err-place.ensures))))))
 
 pub stmt-returns-then-is_mark-clause-cases : goal.stmt-returns-then-is_mark-clause-cases
@@ -41,7 +41,7 @@ stmt-returns-then-is_mark-clause-cases t c = let b0 = sym c.begins.ensures ∙ c
 
 pub stmt-returns-in_err-made-3-clause-cases : goal.stmt-returns-in_err-made-3-clause-cases
 stmt-returns-in_err-made-3-clause-cases t c =
-    let p = err_from_is_err_and c.from_residual-in_err-made-3.result c.from_residual-in_err-made-3.ensures.1 in let b0 = sym c.begins.ensures ∙ c.if-begins.false in let b1 = sym c.begins-2.ensures ∙ c.if-begins-2.false in let b2 = sym c.is_mark.ensures ∙ c.if-is_mark.false in let b3 = sym c.is_mark-2.ensures ∙ c.if-is_mark-2.true in 
+    let p = err_from_is_err_and c.from_residual-in_err-made-3.result c.from_residual-in_err-made-3.ensures.1 in let b0 = sym c.begins.ensures ∙ c.if-begins.false in let b1 = sym c.begins-2.ensures ∙ c.if-begins-2.false in let b2 = sym c.is_mark.ensures ∙ c.if-is_mark.false in let b3 = sym c.is_mark-2.ensures ∙ c.if-is_mark-2.true in
     rw (p.1, p.2) (fails_sub (fails_nested (fails_right b0 (fails_right b1 (fails_right b2 (fails_left b3 (c.in_err-made-3.ensures.cases)))))))
 
 pub stmt-returns-then-is_mark-2-clause-cases : goal.stmt-returns-then-is_mark-2-clause-cases
@@ -49,7 +49,7 @@ stmt-returns-then-is_mark-2-clause-cases t c = let b0 = sym c.begins.ensures ∙
 
 pub stmt-returns-in_err-made-4-clause-cases : goal.stmt-returns-in_err-made-4-clause-cases
 stmt-returns-in_err-made-4-clause-cases t c =
-    let p = err_from_is_err_and c.from_residual-in_err-made-4.result c.from_residual-in_err-made-4.ensures.1 in let b0 = sym c.begins.ensures ∙ c.if-begins.false in let b1 = sym c.begins-2.ensures ∙ c.if-begins-2.false in let b2 = sym c.is_mark.ensures ∙ c.if-is_mark.false in let b3 = sym c.is_mark-2.ensures ∙ c.if-is_mark-2.false in let b4 = sym c.is_word.ensures ∙ c.if-is_word.true in 
+    let p = err_from_is_err_and c.from_residual-in_err-made-4.result c.from_residual-in_err-made-4.ensures.1 in let b0 = sym c.begins.ensures ∙ c.if-begins.false in let b1 = sym c.begins-2.ensures ∙ c.if-begins-2.false in let b2 = sym c.is_mark.ensures ∙ c.if-is_mark.false in let b3 = sym c.is_mark-2.ensures ∙ c.if-is_mark-2.false in let b4 = sym c.is_word.ensures ∙ c.if-is_word.true in
     rw (p.1, p.2) (fails_sub (fails_nested (fails_right b0 (fails_right b1 (fails_right b2 (fails_right b3 (fails_left b4 (c.in_err-made-4.ensures.cases))))))))
 
 pub stmt-returns-then-is_word-clause-cases : goal.stmt-returns-then-is_word-clause-cases
@@ -57,7 +57,7 @@ stmt-returns-then-is_word-clause-cases t c = let b0 = sym c.begins.ensures ∙ c
 
 pub stmt-returns-in_err-made-5-clause-cases : goal.stmt-returns-in_err-made-5-clause-cases
 stmt-returns-in_err-made-5-clause-cases t c =
-    let p = err_from_is_err_and c.from_residual-in_err-made-5.result c.from_residual-in_err-made-5.ensures.1 in let b0 = sym c.begins.ensures ∙ c.if-begins.false in let b1 = sym c.begins-2.ensures ∙ c.if-begins-2.false in let b2 = sym c.is_mark.ensures ∙ c.if-is_mark.false in let b3 = sym c.is_mark-2.ensures ∙ c.if-is_mark-2.false in let b4 = sym c.is_word.ensures ∙ c.if-is_word.false in let b5 = sym c.is_word-2.ensures ∙ c.if-is_word-2.true in 
+    let p = err_from_is_err_and c.from_residual-in_err-made-5.result c.from_residual-in_err-made-5.ensures.1 in let b0 = sym c.begins.ensures ∙ c.if-begins.false in let b1 = sym c.begins-2.ensures ∙ c.if-begins-2.false in let b2 = sym c.is_mark.ensures ∙ c.if-is_mark.false in let b3 = sym c.is_mark-2.ensures ∙ c.if-is_mark-2.false in let b4 = sym c.is_word.ensures ∙ c.if-is_word.false in let b5 = sym c.is_word-2.ensures ∙ c.if-is_word-2.true in
     rw (p.1, p.2) (fails_sub (fails_nested (fails_right b0 (fails_right b1 (fails_right b2 (fails_right b3 (fails_right b4 (fails_left b5 (c.in_err-made-5.ensures.cases)))))))))
 
 pub stmt-returns-then-is_word-2-clause-cases : goal.stmt-returns-then-is_word-2-clause-cases
@@ -65,7 +65,7 @@ stmt-returns-then-is_word-2-clause-cases t c = let b0 = sym c.begins.ensures ∙
 
 pub stmt-returns-in_err-made-6-clause-cases : goal.stmt-returns-in_err-made-6-clause-cases
 stmt-returns-in_err-made-6-clause-cases t c =
-    let p = err_from_is_err_and c.from_residual-in_err-made-6.result c.from_residual-in_err-made-6.ensures.1 in let b0 = sym c.begins.ensures ∙ c.if-begins.false in let b1 = sym c.begins-2.ensures ∙ c.if-begins-2.false in let b2 = sym c.is_mark.ensures ∙ c.if-is_mark.false in let b3 = sym c.is_mark-2.ensures ∙ c.if-is_mark-2.false in let b4 = sym c.is_word.ensures ∙ c.if-is_word.false in let b5 = sym c.is_word-2.ensures ∙ c.if-is_word-2.false in let b6 = sym c.is_word-3.ensures ∙ c.if-is_word-3.true in 
+    let p = err_from_is_err_and c.from_residual-in_err-made-6.result c.from_residual-in_err-made-6.ensures.1 in let b0 = sym c.begins.ensures ∙ c.if-begins.false in let b1 = sym c.begins-2.ensures ∙ c.if-begins-2.false in let b2 = sym c.is_mark.ensures ∙ c.if-is_mark.false in let b3 = sym c.is_mark-2.ensures ∙ c.if-is_mark-2.false in let b4 = sym c.is_word.ensures ∙ c.if-is_word.false in let b5 = sym c.is_word-2.ensures ∙ c.if-is_word-2.false in let b6 = sym c.is_word-3.ensures ∙ c.if-is_word-3.true in
     rw (p.1, p.2) (fails_sub (fails_nested (fails_right b0 (fails_right b1 (fails_right b2 (fails_right b3 (fails_right b4 (fails_right b5 (fails_left b6 (c.in_err-made-6.ensures.cases))))))))))
 
 pub stmt-returns-then-is_word-3-clause-cases : goal.stmt-returns-then-is_word-3-clause-cases
@@ -73,12 +73,12 @@ stmt-returns-then-is_word-3-clause-cases t c = let b0 = sym c.begins.ensures ∙
 
 pub stmt-returns-in_err-made-7-clause-cases : goal.stmt-returns-in_err-made-7-clause-cases
 stmt-returns-in_err-made-7-clause-cases t c =
-    let p = err_from_is_err_and c.from_residual-in_err-made-7.result c.from_residual-in_err-made-7.ensures.1 in let b0 = sym c.begins.ensures ∙ c.if-begins.false in let b1 = sym c.begins-2.ensures ∙ c.if-begins-2.false in let b2 = sym c.is_mark.ensures ∙ c.if-is_mark.false in let b3 = sym c.is_mark-2.ensures ∙ c.if-is_mark-2.false in let b4 = sym c.is_word.ensures ∙ c.if-is_word.false in let b5 = sym c.is_word-2.ensures ∙ c.if-is_word-2.false in let b6 = sym c.is_word-3.ensures ∙ c.if-is_word-3.false in 
+    let p = err_from_is_err_and c.from_residual-in_err-made-7.result c.from_residual-in_err-made-7.ensures.1 in let b0 = sym c.begins.ensures ∙ c.if-begins.false in let b1 = sym c.begins-2.ensures ∙ c.if-begins-2.false in let b2 = sym c.is_mark.ensures ∙ c.if-is_mark.false in let b3 = sym c.is_mark-2.ensures ∙ c.if-is_mark-2.false in let b4 = sym c.is_word.ensures ∙ c.if-is_word.false in let b5 = sym c.is_word-2.ensures ∙ c.if-is_word-2.false in let b6 = sym c.is_word-3.ensures ∙ c.if-is_word-3.false in
     rw (p.1, p.2) (fails_sub (fails_nested (fails_right b0 (fails_right b1 (fails_right b2 (fails_right b3 (fails_right b4 (fails_right b5 (fails_right b6 (fails_first (c.in_err-made-7.ensures.cases)))))))))))
 
 pub stmt-returns-in_err-mark-clause-cases : goal.stmt-returns-in_err-mark-clause-cases
 stmt-returns-in_err-mark-clause-cases t c =
-    let p = err_from_is_err_and c.from_residual-in_err-mark.result c.from_residual-in_err-mark.ensures.1 in let b0 = sym c.begins.ensures ∙ c.if-begins.false in let b1 = sym c.begins-2.ensures ∙ c.if-begins-2.false in let b2 = sym c.is_mark.ensures ∙ c.if-is_mark.false in let b3 = sym c.is_mark-2.ensures ∙ c.if-is_mark-2.false in let b4 = sym c.is_word.ensures ∙ c.if-is_word.false in let b5 = sym c.is_word-2.ensures ∙ c.if-is_word-2.false in let b6 = sym c.is_word-3.ensures ∙ c.if-is_word-3.false in 
+    let p = err_from_is_err_and c.from_residual-in_err-mark.result c.from_residual-in_err-mark.ensures.1 in let b0 = sym c.begins.ensures ∙ c.if-begins.false in let b1 = sym c.begins-2.ensures ∙ c.if-begins-2.false in let b2 = sym c.is_mark.ensures ∙ c.if-is_mark.false in let b3 = sym c.is_mark-2.ensures ∙ c.if-is_mark-2.false in let b4 = sym c.is_word.ensures ∙ c.if-is_word.false in let b5 = sym c.is_word-2.ensures ∙ c.if-is_word-2.false in let b6 = sym c.is_word-3.ensures ∙ c.if-is_word-3.false in
     rw (p.1, p.2) (fails_sub (fails_nested (fails_right b0 (fails_right b1 (fails_right b2 (fails_right b3 (fails_right b4 (fails_right b5 (fails_right b6 (fails_second c.in_ok-made-7.ensures.cases (c.in_err-mark.ensures)))))))))))
 
 pub stmt-returns-clause-cases : goal.stmt-returns-clause-cases
@@ -89,7 +89,7 @@ stmts-items-init t c = rw c.new-items.ensures.items (none_yet _ _ _ _ c.requires
 
 pub stmts-returns-in_err-next : goal.stmts-returns-in_err-next
 stmts-returns-in_err-next t c =
-    let p = err_from_is_err_and c.from_residual.result c.from_residual.ensures.1 in let b = sym c.begins.ensures ∙ c.items-test.true in 
+    let p = err_from_is_err_and c.from_residual.result c.from_residual.ensures.1 in let b = sym c.begins.ensures ∙ c.items-test.true in
     rw (p.1, p.2) (repeats_not _ _ _ _ _ _ _ c.items.invariant b c.in_err-next.ensures.cases)
 
 pub stmts-returns-in_err-push_vec : goal.stmts-returns-in_err-push_vec
@@ -105,17 +105,17 @@ stmts-returns t c = let b = sym c.begins.ensures ∙ c.items-test.false in repea
 
 pub block-returns-in_err-place-clause-cases : goal.block-returns-in_err-place-clause-cases
 block-returns-in_err-place-clause-cases t c =
-    let p = err_from_is_err_and c.from_residual.result c.from_residual.ensures.1 in 
+    let p = err_from_is_err_and c.from_residual.result c.from_residual.ensures.1 in
     rw (p.1, p.2) (fails_first (c.in_err-place.ensures))
 
 pub block-returns-in_err-items-clause-cases : goal.block-returns-in_err-items-clause-cases
 block-returns-in_err-items-clause-cases t c =
-    let p = err_from_is_err_and c.from_residual-in_err-items.result c.from_residual-in_err-items.ensures.1 in 
+    let p = err_from_is_err_and c.from_residual-in_err-items.result c.from_residual-in_err-items.ensures.1 in
     rw (p.1, p.2) (fails_second c.in_ok-place.ensures.takes.reads (fails_first (c.in_err-items.ensures)))
 
 pub block-returns-in_err-mark-clause-cases : goal.block-returns-in_err-mark-clause-cases
 block-returns-in_err-mark-clause-cases t c =
-    let p = err_from_is_err_and c.from_residual-in_err-mark.result c.from_residual-in_err-mark.ensures.1 in 
+    let p = err_from_is_err_and c.from_residual-in_err-mark.result c.from_residual-in_err-mark.ensures.1 in
     rw (p.1, p.2) (fails_second c.in_ok-place.ensures.takes.reads (fails_second c.in_ok-items.ensures (c.in_err-mark.ensures)))
 
 pub block-returns-clause-cases : goal.block-returns-clause-cases
@@ -123,27 +123,27 @@ block-returns-clause-cases t c = makes (reads_both c.in_ok-place.ensures.takes.r
 
 pub if_else-returns-in_err-place-clause-cases : goal.if_else-returns-in_err-place-clause-cases
 if_else-returns-in_err-place-clause-cases t c =
-    let p = err_from_is_err_and c.from_residual.result c.from_residual.ensures.1 in 
+    let p = err_from_is_err_and c.from_residual.result c.from_residual.ensures.1 in
     rw (p.1, p.2) (fails_first (c.in_err-place.ensures))
 
 pub if_else-returns-in_err-mark-clause-cases : goal.if_else-returns-in_err-mark-clause-cases
 if_else-returns-in_err-mark-clause-cases t c =
-    let p = err_from_is_err_and c.from_residual-in_err-mark.result c.from_residual-in_err-mark.ensures.1 in 
+    let p = err_from_is_err_and c.from_residual-in_err-mark.result c.from_residual-in_err-mark.ensures.1 in
     rw (p.1, p.2) (fails_second c.in_ok-place.ensures.takes.reads (fails_first (c.in_err-mark.ensures)))
 
 pub if_else-returns-in_err-test-clause-cases : goal.if_else-returns-in_err-test-clause-cases
 if_else-returns-in_err-test-clause-cases t c =
-    let p = err_from_is_err_and c.from_residual-in_err-test.result c.from_residual-in_err-test.ensures.1 in 
+    let p = err_from_is_err_and c.from_residual-in_err-test.result c.from_residual-in_err-test.ensures.1 in
     rw (p.1, p.2) (fails_second c.in_ok-place.ensures.takes.reads (fails_second c.in_ok-mark.ensures.takes.reads (fails_first (c.in_err-test.ensures))))
 
 pub if_else-returns-in_err-mark-2-clause-cases : goal.if_else-returns-in_err-mark-2-clause-cases
 if_else-returns-in_err-mark-2-clause-cases t c =
-    let p = err_from_is_err_and c.from_residual-in_err-mark-2.result c.from_residual-in_err-mark-2.ensures.1 in 
+    let p = err_from_is_err_and c.from_residual-in_err-mark-2.result c.from_residual-in_err-mark-2.ensures.1 in
     rw (p.1, p.2) (fails_second c.in_ok-place.ensures.takes.reads (fails_second c.in_ok-mark.ensures.takes.reads (fails_second c.in_ok-test.ensures (fails_first (c.in_err-mark-2.ensures)))))
 
 pub if_else-returns-in_err-yes-clause-cases : goal.if_else-returns-in_err-yes-clause-cases
 if_else-returns-in_err-yes-clause-cases t c =
-    let p = err_from_is_err_and c.from_residual-in_err-yes.result c.from_residual-in_err-yes.ensures.1 in 
+    let p = err_from_is_err_and c.from_residual-in_err-yes.result c.from_residual-in_err-yes.ensures.1 in
     rw (p.1, p.2) (fails_second c.in_ok-place.ensures.takes.reads (fails_second c.in_ok-mark.ensures.takes.reads (fails_second c.in_ok-test.ensures (fails_second c.in_ok-mark-2.ensures.takes.reads (fails_first (c.in_err-yes.ensures.cases))))))
 
 pub if_else-returns-in_err-made-clause-cases : goal.if_else-returns-in_err-made-clause-cases
@@ -156,12 +156,12 @@ if_else-returns-then-not-is_word-clause-cases t c = let b = sym c.is_word.ensure
 
 pub if_else-returns-in_err-word-clause-cases : goal.if_else-returns-in_err-word-clause-cases
 if_else-returns-in_err-word-clause-cases t c =
-    let p = err_from_is_err_and c.from_residual-in_err-word.result c.from_residual-in_err-word.ensures.1 in let b = sym c.is_word.ensures ∙ c.if-not-is_word.false in 
+    let p = err_from_is_err_and c.from_residual-in_err-word.result c.from_residual-in_err-word.ensures.1 in let b = sym c.is_word.ensures ∙ c.if-not-is_word.false in
     rw (p.1, p.2) (fails_second c.in_ok-place.ensures.takes.reads (fails_second c.in_ok-mark.ensures.takes.reads (fails_second c.in_ok-test.ensures (fails_second c.in_ok-mark-2.ensures.takes.reads (fails_second c.in_ok-yes.ensures.cases (fails_left b (fails_first (c.in_err-word.ensures))))))))
 
 pub if_else-returns-in_err-no-clause-cases : goal.if_else-returns-in_err-no-clause-cases
 if_else-returns-in_err-no-clause-cases t c =
-    let p = err_from_is_err_and c.from_residual-in_err-no.result c.from_residual-in_err-no.ensures.1 in let b = sym c.is_word.ensures ∙ c.if-not-is_word.false in 
+    let p = err_from_is_err_and c.from_residual-in_err-no.result c.from_residual-in_err-no.ensures.1 in let b = sym c.is_word.ensures ∙ c.if-not-is_word.false in
     rw (p.1, p.2) (fails_second c.in_ok-place.ensures.takes.reads (fails_second c.in_ok-mark.ensures.takes.reads (fails_second c.in_ok-test.ensures (fails_second c.in_ok-mark-2.ensures.takes.reads (fails_second c.in_ok-yes.ensures.cases (fails_left b (fails_second c.in_ok-word.ensures.takes.reads (c.in_err-no.ensures.cases))))))))
 
 pub if_else-returns-in_err-made-2-clause-cases : goal.if_else-returns-in_err-made-2-clause-cases
@@ -174,27 +174,27 @@ if_else-returns-clause-cases t c = let b = sym c.is_word.ensures ∙ c.if-not-is
 
 pub while_loop-returns-in_err-place-clause-cases : goal.while_loop-returns-in_err-place-clause-cases
 while_loop-returns-in_err-place-clause-cases t c =
-    let p = err_from_is_err_and c.from_residual.result c.from_residual.ensures.1 in 
+    let p = err_from_is_err_and c.from_residual.result c.from_residual.ensures.1 in
     rw (p.1, p.2) (fails_first (c.in_err-place.ensures))
 
 pub while_loop-returns-in_err-mark-clause-cases : goal.while_loop-returns-in_err-mark-clause-cases
 while_loop-returns-in_err-mark-clause-cases t c =
-    let p = err_from_is_err_and c.from_residual-in_err-mark.result c.from_residual-in_err-mark.ensures.1 in 
+    let p = err_from_is_err_and c.from_residual-in_err-mark.result c.from_residual-in_err-mark.ensures.1 in
     rw (p.1, p.2) (fails_second c.in_ok-place.ensures.takes.reads (fails_first (c.in_err-mark.ensures)))
 
 pub while_loop-returns-in_err-test-clause-cases : goal.while_loop-returns-in_err-test-clause-cases
 while_loop-returns-in_err-test-clause-cases t c =
-    let p = err_from_is_err_and c.from_residual-in_err-test.result c.from_residual-in_err-test.ensures.1 in 
+    let p = err_from_is_err_and c.from_residual-in_err-test.result c.from_residual-in_err-test.ensures.1 in
     rw (p.1, p.2) (fails_second c.in_ok-place.ensures.takes.reads (fails_second c.in_ok-mark.ensures.takes.reads (fails_first (c.in_err-test.ensures))))
 
 pub while_loop-returns-in_err-mark-2-clause-cases : goal.while_loop-returns-in_err-mark-2-clause-cases
 while_loop-returns-in_err-mark-2-clause-cases t c =
-    let p = err_from_is_err_and c.from_residual-in_err-mark-2.result c.from_residual-in_err-mark-2.ensures.1 in 
+    let p = err_from_is_err_and c.from_residual-in_err-mark-2.result c.from_residual-in_err-mark-2.ensures.1 in
     rw (p.1, p.2) (fails_second c.in_ok-place.ensures.takes.reads (fails_second c.in_ok-mark.ensures.takes.reads (fails_second c.in_ok-test.ensures (fails_first (c.in_err-mark-2.ensures)))))
 
 pub while_loop-returns-in_err-body-clause-cases : goal.while_loop-returns-in_err-body-clause-cases
 while_loop-returns-in_err-body-clause-cases t c =
-    let p = err_from_is_err_and c.from_residual-in_err-body.result c.from_residual-in_err-body.ensures.1 in 
+    let p = err_from_is_err_and c.from_residual-in_err-body.result c.from_residual-in_err-body.ensures.1 in
     rw (p.1, p.2) (fails_second c.in_ok-place.ensures.takes.reads (fails_second c.in_ok-mark.ensures.takes.reads (fails_second c.in_ok-test.ensures (fails_second c.in_ok-mark-2.ensures.takes.reads (c.in_err-body.ensures.cases)))))
 
 pub while_loop-returns-in_err-made-clause-cases : goal.while_loop-returns-in_err-made-clause-cases
@@ -207,47 +207,47 @@ while_loop-returns-clause-cases t c = makes (reads_both c.in_ok-place.ensures.ta
 
 pub for_loop-returns-in_err-place-clause-cases : goal.for_loop-returns-in_err-place-clause-cases
 for_loop-returns-in_err-place-clause-cases t c =
-    let p = err_from_is_err_and c.from_residual.result c.from_residual.ensures.1 in 
+    let p = err_from_is_err_and c.from_residual.result c.from_residual.ensures.1 in
     rw (p.1, p.2) (fails_first (c.in_err-place.ensures))
 
 pub for_loop-returns-in_err-mark-clause-cases : goal.for_loop-returns-in_err-mark-clause-cases
 for_loop-returns-in_err-mark-clause-cases t c =
-    let p = err_from_is_err_and c.from_residual-in_err-mark.result c.from_residual-in_err-mark.ensures.1 in 
+    let p = err_from_is_err_and c.from_residual-in_err-mark.result c.from_residual-in_err-mark.ensures.1 in
     rw (p.1, p.2) (fails_second c.in_ok-place.ensures.takes.reads (fails_first (c.in_err-mark.ensures)))
 
 pub for_loop-returns-in_err-start-clause-cases : goal.for_loop-returns-in_err-start-clause-cases
 for_loop-returns-in_err-start-clause-cases t c =
-    let p = err_from_is_err_and c.from_residual-in_err-start.result c.from_residual-in_err-start.ensures.1 in 
+    let p = err_from_is_err_and c.from_residual-in_err-start.result c.from_residual-in_err-start.ensures.1 in
     rw (p.1, p.2) (fails_second c.in_ok-place.ensures.takes.reads (fails_second c.in_ok-mark.ensures.takes.reads (fails_first (c.in_err-start.ensures))))
 
 pub for_loop-returns-in_err-mark-2-clause-cases : goal.for_loop-returns-in_err-mark-2-clause-cases
 for_loop-returns-in_err-mark-2-clause-cases t c =
-    let p = err_from_is_err_and c.from_residual-in_err-mark-2.result c.from_residual-in_err-mark-2.ensures.1 in 
+    let p = err_from_is_err_and c.from_residual-in_err-mark-2.result c.from_residual-in_err-mark-2.ensures.1 in
     rw (p.1, p.2) (fails_second c.in_ok-place.ensures.takes.reads (fails_second c.in_ok-mark.ensures.takes.reads (fails_second c.in_ok-start.ensures (fails_first (c.in_err-mark-2.ensures)))))
 
 pub for_loop-returns-in_err-test-clause-cases : goal.for_loop-returns-in_err-test-clause-cases
 for_loop-returns-in_err-test-clause-cases t c =
-    let p = err_from_is_err_and c.from_residual-in_err-test.result c.from_residual-in_err-test.ensures.1 in 
+    let p = err_from_is_err_and c.from_residual-in_err-test.result c.from_residual-in_err-test.ensures.1 in
     rw (p.1, p.2) (fails_second c.in_ok-place.ensures.takes.reads (fails_second c.in_ok-mark.ensures.takes.reads (fails_second c.in_ok-start.ensures (fails_second c.in_ok-mark-2.ensures.takes.reads (fails_first (c.in_err-test.ensures))))))
 
 pub for_loop-returns-in_err-mark-3-clause-cases : goal.for_loop-returns-in_err-mark-3-clause-cases
 for_loop-returns-in_err-mark-3-clause-cases t c =
-    let p = err_from_is_err_and c.from_residual-in_err-mark-3.result c.from_residual-in_err-mark-3.ensures.1 in 
+    let p = err_from_is_err_and c.from_residual-in_err-mark-3.result c.from_residual-in_err-mark-3.ensures.1 in
     rw (p.1, p.2) (fails_second c.in_ok-place.ensures.takes.reads (fails_second c.in_ok-mark.ensures.takes.reads (fails_second c.in_ok-start.ensures (fails_second c.in_ok-mark-2.ensures.takes.reads (fails_second c.in_ok-test.ensures (fails_first (c.in_err-mark-3.ensures)))))))
 
 pub for_loop-returns-in_err-advance-clause-cases : goal.for_loop-returns-in_err-advance-clause-cases
 for_loop-returns-in_err-advance-clause-cases t c =
-    let p = err_from_is_err_and c.from_residual-in_err-advance.result c.from_residual-in_err-advance.ensures.1 in 
+    let p = err_from_is_err_and c.from_residual-in_err-advance.result c.from_residual-in_err-advance.ensures.1 in
     rw (p.1, p.2) (fails_second c.in_ok-place.ensures.takes.reads (fails_second c.in_ok-mark.ensures.takes.reads (fails_second c.in_ok-start.ensures (fails_second c.in_ok-mark-2.ensures.takes.reads (fails_second c.in_ok-test.ensures (fails_second c.in_ok-mark-3.ensures.takes.reads (fails_first (c.in_err-advance.ensures))))))))
 
 pub for_loop-returns-in_err-mark-4-clause-cases : goal.for_loop-returns-in_err-mark-4-clause-cases
 for_loop-returns-in_err-mark-4-clause-cases t c =
-    let p = err_from_is_err_and c.from_residual-in_err-mark-4.result c.from_residual-in_err-mark-4.ensures.1 in 
+    let p = err_from_is_err_and c.from_residual-in_err-mark-4.result c.from_residual-in_err-mark-4.ensures.1 in
     rw (p.1, p.2) (fails_second c.in_ok-place.ensures.takes.reads (fails_second c.in_ok-mark.ensures.takes.reads (fails_second c.in_ok-start.ensures (fails_second c.in_ok-mark-2.ensures.takes.reads (fails_second c.in_ok-test.ensures (fails_second c.in_ok-mark-3.ensures.takes.reads (fails_second c.in_ok-advance.ensures (fails_first (c.in_err-mark-4.ensures)))))))))
 
 pub for_loop-returns-in_err-body-clause-cases : goal.for_loop-returns-in_err-body-clause-cases
 for_loop-returns-in_err-body-clause-cases t c =
-    let p = err_from_is_err_and c.from_residual-in_err-body.result c.from_residual-in_err-body.ensures.1 in 
+    let p = err_from_is_err_and c.from_residual-in_err-body.result c.from_residual-in_err-body.ensures.1 in
     rw (p.1, p.2) (fails_second c.in_ok-place.ensures.takes.reads (fails_second c.in_ok-mark.ensures.takes.reads (fails_second c.in_ok-start.ensures (fails_second c.in_ok-mark-2.ensures.takes.reads (fails_second c.in_ok-test.ensures (fails_second c.in_ok-mark-3.ensures.takes.reads (fails_second c.in_ok-advance.ensures (fails_second c.in_ok-mark-4.ensures.takes.reads (c.in_err-body.ensures.cases)))))))))
 
 pub for_loop-returns-in_err-made-clause-cases : goal.for_loop-returns-in_err-made-clause-cases

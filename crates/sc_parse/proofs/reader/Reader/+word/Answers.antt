@@ -11,7 +11,7 @@ use Rattle.sc_parse.proofs.reader.Reader.+word.Goals as goal
 
 pub word_expr-returns-in_err-test : goal.word_expr-returns-in_err-test
 word_expr-returns-in_err-test t c =
-    let p = err_from_is_err_and c.from_residual.result c.from_residual.ensures.1 in 
+    let p = err_from_is_err_and c.from_residual.result c.from_residual.ensures.1 in
     rw (p.1, p.2) (fails_sub (fails_nested (fails_first (c.in_err-test.ensures))))
 
 pub word_expr-returns-then-not-is_mark : goal.word_expr-returns-then-not-is_mark
@@ -19,22 +19,22 @@ word_expr-returns-then-not-is_mark t c = let b = sym c.is_mark.ensures ∙ c.if-
 
 pub word_expr-returns-in_err-mark : goal.word_expr-returns-in_err-mark
 word_expr-returns-in_err-mark t c =
-    let p = err_from_is_err_and c.from_residual-in_err-mark.result c.from_residual-in_err-mark.ensures.1 in let b = sym c.is_mark.ensures ∙ c.if-not-is_mark.false in 
+    let p = err_from_is_err_and c.from_residual-in_err-mark.result c.from_residual-in_err-mark.ensures.1 in let b = sym c.is_mark.ensures ∙ c.if-not-is_mark.false in
     rw (p.1, p.2) (fails_sub (fails_nested (fails_second c.in_ok-test.ensures (fails_left b (fails_first (c.in_err-mark.ensures))))))
 
 pub word_expr-returns-in_err-yes : goal.word_expr-returns-in_err-yes
 word_expr-returns-in_err-yes t c =
-    let p = err_from_is_err_and c.from_residual-in_err-yes.result c.from_residual-in_err-yes.ensures.1 in let b = sym c.is_mark.ensures ∙ c.if-not-is_mark.false in 
+    let p = err_from_is_err_and c.from_residual-in_err-yes.result c.from_residual-in_err-yes.ensures.1 in let b = sym c.is_mark.ensures ∙ c.if-not-is_mark.false in
     rw (p.1, p.2) (fails_sub (fails_nested (fails_second c.in_ok-test.ensures (fails_left b (fails_second c.in_ok-mark.ensures.takes.reads (fails_first (c.in_err-yes.ensures)))))))
 
 pub word_expr-returns-in_err-mark-2 : goal.word_expr-returns-in_err-mark-2
 word_expr-returns-in_err-mark-2 t c =
-    let p = err_from_is_err_and c.from_residual-in_err-mark-2.result c.from_residual-in_err-mark-2.ensures.1 in let b = sym c.is_mark.ensures ∙ c.if-not-is_mark.false in 
+    let p = err_from_is_err_and c.from_residual-in_err-mark-2.result c.from_residual-in_err-mark-2.ensures.1 in let b = sym c.is_mark.ensures ∙ c.if-not-is_mark.false in
     rw (p.1, p.2) (fails_sub (fails_nested (fails_second c.in_ok-test.ensures (fails_left b (fails_second c.in_ok-mark.ensures.takes.reads (fails_second c.in_ok-yes.ensures (fails_first (c.in_err-mark-2.ensures))))))))
 
 pub word_expr-returns-in_err-no : goal.word_expr-returns-in_err-no
 word_expr-returns-in_err-no t c =
-    let p = err_from_is_err_and c.from_residual-in_err-no.result c.from_residual-in_err-no.ensures.1 in let b = sym c.is_mark.ensures ∙ c.if-not-is_mark.false in 
+    let p = err_from_is_err_and c.from_residual-in_err-no.result c.from_residual-in_err-no.ensures.1 in let b = sym c.is_mark.ensures ∙ c.if-not-is_mark.false in
     rw (p.1, p.2) (fails_sub (fails_nested (fails_second c.in_ok-test.ensures (fails_left b (fails_second c.in_ok-mark.ensures.takes.reads (fails_second c.in_ok-yes.ensures (fails_second c.in_ok-mark-2.ensures.takes.reads (c.in_err-no.ensures))))))))
 
 pub word_expr-returns-in_err-made : goal.word_expr-returns-in_err-made
@@ -47,7 +47,7 @@ word_expr-returns t c = let b = sym c.is_mark.ensures ∙ c.if-not-is_mark.false
 
 pub word_chain-returns-in_err-first : goal.word_chain-returns-in_err-first
 word_chain-returns-in_err-first t c =
-    let p = err_from_is_err_and c.from_residual.result c.from_residual.ensures.1 in 
+    let p = err_from_is_err_and c.from_residual.result c.from_residual.ensures.1 in
     rw (p.1, p.2) (fails_chain c.args.level (fails_first (c.in_err-first.ensures)))
 
 pub word_chain-links-init : goal.word_chain-links-init
@@ -55,12 +55,12 @@ word_chain-links-init t c = chained_start c.args.level _ _ _ _ c.in_ok-first.ens
 
 pub word_chain-returns-in_err-op : goal.word_chain-returns-in_err-op
 word_chain-returns-in_err-op t c =
-    let p = err_from_is_err_and c.from_residual-in_err-op.result c.from_residual-in_err-op.ensures.1 in let b0 = sym c.is_word_operator.ensures ∙ c.links-test.true in let b = link_begins c.args.level _ ∙ b0 in 
+    let p = err_from_is_err_and c.from_residual-in_err-op.result c.from_residual-in_err-op.ensures.1 in let b0 = sym c.is_word_operator.ensures ∙ c.links-test.true in let b = link_begins c.args.level _ ∙ b0 in
     rw (p.1, p.2) (fails_chain c.args.level (fails_second c.in_ok-first.ensures (repeats_not _ _ _ _ _ _ _ c.links.invariant.repeated b (fails_first (c.in_err-op.ensures)))))
 
 pub word_chain-returns-in_err-right : goal.word_chain-returns-in_err-right
 word_chain-returns-in_err-right t c =
-    let p = err_from_is_err_and c.from_residual-in_err-right.result c.from_residual-in_err-right.ensures.1 in let b0 = sym c.is_word_operator.ensures ∙ c.links-test.true in let b = link_begins c.args.level _ ∙ b0 in 
+    let p = err_from_is_err_and c.from_residual-in_err-right.result c.from_residual-in_err-right.ensures.1 in let b0 = sym c.is_word_operator.ensures ∙ c.links-test.true in let b = link_begins c.args.level _ ∙ b0 in
     rw (p.1, p.2) (fails_chain c.args.level (fails_second c.in_ok-first.ensures (repeats_not _ _ _ _ _ _ _ c.links.invariant.repeated b (fails_second c.in_ok-op.ensures.takes.reads (c.in_err-right.ensures)))))
 
 pub word_chain-returns-in_err-push : goal.word_chain-returns-in_err-push
@@ -84,7 +84,7 @@ word_chain-returns t c = let b0 = sym c.is_word_operator.ensures ∙ c.links-tes
 
 pub word_shift-returns-in_err-first : goal.word_shift-returns-in_err-first
 word_shift-returns-in_err-first t c =
-    let p = err_from_is_err_and c.from_residual.result c.from_residual.ensures.1 in 
+    let p = err_from_is_err_and c.from_residual.result c.from_residual.ensures.1 in
     rw (p.1, p.2) (fails_sub (fails_first (c.in_err-first.ensures)))
 
 pub word_shift-shifts-init : goal.word_shift-shifts-init
@@ -92,12 +92,12 @@ word_shift-shifts-init t c = shifted_start _ _ _ _ c.in_ok-first.ensures.within 
 
 pub word_shift-returns-in_err-left : goal.word_shift-returns-in_err-left
 word_shift-returns-in_err-left t c =
-    let p = err_from_is_err_and c.from_residual-in_err-left.result c.from_residual-in_err-left.ensures.1 in let b = sym c.is_one_of.ensures ∙ c.shifts-test.true in 
+    let p = err_from_is_err_and c.from_residual-in_err-left.result c.from_residual-in_err-left.ensures.1 in let b = sym c.is_one_of.ensures ∙ c.shifts-test.true in
     rw (p.1, p.2) (fails_sub (fails_second c.in_ok-first.ensures (repeats_not _ _ _ _ _ _ _ c.shifts.invariant.repeated b (fails_first (c.in_err-left.ensures)))))
 
 pub word_shift-returns-in_err-by : goal.word_shift-returns-in_err-by
 word_shift-returns-in_err-by t c =
-    let p = err_from_is_err_and c.from_residual-in_err-by.result c.from_residual-in_err-by.ensures.1 in let b = sym c.is_one_of.ensures ∙ c.shifts-test.true in 
+    let p = err_from_is_err_and c.from_residual-in_err-by.result c.from_residual-in_err-by.ensures.1 in let b = sym c.is_one_of.ensures ∙ c.shifts-test.true in
     rw (p.1, p.2) (fails_sub (fails_second c.in_ok-first.ensures (repeats_not _ _ _ _ _ _ _ c.shifts.invariant.repeated b (fails_second c.in_ok-left.ensures.takes.reads (c.in_err-by.ensures)))))
 
 pub word_shift-returns-in_err-push_shift : goal.word_shift-returns-in_err-push_shift
@@ -121,7 +121,7 @@ word_shift-returns t c = let b = sym c.is_one_of.ensures ∙ c.shifts-test.false
 
 pub word_unary-returns-in_err-made : goal.word_unary-returns-in_err-made
 word_unary-returns-in_err-made t c =
-    let p = err_from_is_err_and c.from_residual.result c.from_residual.ensures.1 in let b = sym c.is_mark.ensures ∙ c.if-not-is_mark.true in 
+    let p = err_from_is_err_and c.from_residual.result c.from_residual.ensures.1 in let b = sym c.is_mark.ensures ∙ c.if-not-is_mark.true in
     rw (p.1, p.2) (fails_sub (fails_right b (c.in_err-made.ensures)))
 
 pub word_unary-returns-then-not-is_mark : goal.word_unary-returns-then-not-is_mark
@@ -129,12 +129,12 @@ word_unary-returns-then-not-is_mark t c = let b = sym c.is_mark.ensures ∙ c.if
 
 pub word_unary-returns-in_err-place : goal.word_unary-returns-in_err-place
 word_unary-returns-in_err-place t c =
-    let p = err_from_is_err_and c.from_residual-in_err-place.result c.from_residual-in_err-place.ensures.1 in let b = sym c.is_mark.ensures ∙ c.if-not-is_mark.false in 
+    let p = err_from_is_err_and c.from_residual-in_err-place.result c.from_residual-in_err-place.ensures.1 in let b = sym c.is_mark.ensures ∙ c.if-not-is_mark.false in
     rw (p.1, p.2) (fails_sub (fails_left b (fails_nested (fails_first (c.in_err-place.ensures)))))
 
 pub word_unary-returns-in_err-operand : goal.word_unary-returns-in_err-operand
 word_unary-returns-in_err-operand t c =
-    let p = err_from_is_err_and c.from_residual-in_err-operand.result c.from_residual-in_err-operand.ensures.1 in let b = sym c.is_mark.ensures ∙ c.if-not-is_mark.false in 
+    let p = err_from_is_err_and c.from_residual-in_err-operand.result c.from_residual-in_err-operand.ensures.1 in let b = sym c.is_mark.ensures ∙ c.if-not-is_mark.false in
     rw (p.1, p.2) (fails_sub (fails_left b (fails_nested (fails_second c.in_ok-place.ensures.takes.reads (c.in_err-operand.ensures)))))
 
 pub word_unary-returns-in_err-made-2 : goal.word_unary-returns-in_err-made-2
@@ -147,7 +147,7 @@ word_unary-returns t c = let b = sym c.is_mark.ensures ∙ c.if-not-is_mark.fals
 
 pub word_prim-returns-in_err-token : goal.word_prim-returns-in_err-token
 word_prim-returns-in_err-token t c =
-    let p = err_from_is_err_and c.from_residual.result c.from_residual.ensures.1 in let a = sym c.is_at.ensures ∙ c.if-is_at.true in 
+    let p = err_from_is_err_and c.from_residual.result c.from_residual.ensures.1 in let a = sym c.is_at.ensures ∙ c.if-is_at.true in
     rw (p.1, p.2) (fails_sub (fails_left a (c.in_err-token.ensures)))
 
 pub word_prim-int-made-requires : goal.word_prim-int-made-requires
@@ -158,7 +158,7 @@ word_prim-returns-then-is_at t c = let a = sym c.is_at.ensures ∙ c.if-is_at.tr
 
 pub word_prim-returns-in_err-token-2 : goal.word_prim-returns-in_err-token-2
 word_prim-returns-in_err-token-2 t c =
-    let p = err_from_is_err_and c.from_residual-in_err-token-2.result c.from_residual-in_err-token-2.ensures.1 in let a = sym c.is_at.ensures ∙ c.if-is_at.false in let b = sym c.is_at-2.ensures ∙ c.if-is_at-2.true in 
+    let p = err_from_is_err_and c.from_residual-in_err-token-2.result c.from_residual-in_err-token-2.ensures.1 in let a = sym c.is_at.ensures ∙ c.if-is_at.false in let b = sym c.is_at-2.ensures ∙ c.if-is_at-2.true in
     rw (p.1, p.2) (fails_sub (fails_right a (fails_left b (c.in_err-token-2.ensures))))
 
 pub word_prim-returns-in_err-text : goal.word_prim-returns-in_err-text
@@ -171,17 +171,17 @@ word_prim-returns-then-is_at-2 t c = let a = sym c.is_at.ensures ∙ c.if-is_at.
 
 pub word_prim-returns-in_err-place : goal.word_prim-returns-in_err-place
 word_prim-returns-in_err-place t c =
-    let p = err_from_is_err_and c.from_residual-in_err-place.result c.from_residual-in_err-place.ensures.1 in let a = sym c.is_at.ensures ∙ c.if-is_at.false in let b = sym c.is_at-2.ensures ∙ c.if-is_at-2.false in let d = sym c.is_mark.ensures ∙ c.if-is_mark.true in 
+    let p = err_from_is_err_and c.from_residual-in_err-place.result c.from_residual-in_err-place.ensures.1 in let a = sym c.is_at.ensures ∙ c.if-is_at.false in let b = sym c.is_at-2.ensures ∙ c.if-is_at-2.false in let d = sym c.is_mark.ensures ∙ c.if-is_mark.true in
     rw (p.1, p.2) (fails_sub (fails_right a (fails_right b (fails_left d (fails_first (c.in_err-place.ensures))))))
 
 pub word_prim-returns-in_err-inner : goal.word_prim-returns-in_err-inner
 word_prim-returns-in_err-inner t c =
-    let p = err_from_is_err_and c.from_residual-in_err-inner.result c.from_residual-in_err-inner.ensures.1 in let a = sym c.is_at.ensures ∙ c.if-is_at.false in let b = sym c.is_at-2.ensures ∙ c.if-is_at-2.false in let d = sym c.is_mark.ensures ∙ c.if-is_mark.true in 
+    let p = err_from_is_err_and c.from_residual-in_err-inner.result c.from_residual-in_err-inner.ensures.1 in let a = sym c.is_at.ensures ∙ c.if-is_at.false in let b = sym c.is_at-2.ensures ∙ c.if-is_at-2.false in let d = sym c.is_mark.ensures ∙ c.if-is_mark.true in
     rw (p.1, p.2) (fails_sub (fails_right a (fails_right b (fails_left d (fails_second c.in_ok-place.ensures.takes.reads (fails_first (c.in_err-inner.ensures)))))))
 
 pub word_prim-returns-in_err-mark : goal.word_prim-returns-in_err-mark
 word_prim-returns-in_err-mark t c =
-    let p = err_from_is_err_and c.from_residual-in_err-mark.result c.from_residual-in_err-mark.ensures.1 in let a = sym c.is_at.ensures ∙ c.if-is_at.false in let b = sym c.is_at-2.ensures ∙ c.if-is_at-2.false in let d = sym c.is_mark.ensures ∙ c.if-is_mark.true in 
+    let p = err_from_is_err_and c.from_residual-in_err-mark.result c.from_residual-in_err-mark.ensures.1 in let a = sym c.is_at.ensures ∙ c.if-is_at.false in let b = sym c.is_at-2.ensures ∙ c.if-is_at-2.false in let d = sym c.is_mark.ensures ∙ c.if-is_mark.true in
     rw (p.1, p.2) (fails_sub (fails_right a (fails_right b (fails_left d (fails_second c.in_ok-place.ensures.takes.reads (fails_second c.in_ok-inner.ensures (c.in_err-mark.ensures)))))))
 
 pub word_prim-returns-in_err-made : goal.word_prim-returns-in_err-made
@@ -194,7 +194,7 @@ word_prim-returns-then-is_mark t c = let a = sym c.is_at.ensures ∙ c.if-is_at.
 
 pub word_prim-returns-in_err-token-3 : goal.word_prim-returns-in_err-token-3
 word_prim-returns-in_err-token-3 t c =
-    let p = err_from_is_err_and c.from_residual-in_err-token-3.result c.from_residual-in_err-token-3.ensures.1 in let a = sym c.is_at.ensures ∙ c.if-is_at.false in let b = sym c.is_at-2.ensures ∙ c.if-is_at-2.false in let d = sym c.is_mark.ensures ∙ c.if-is_mark.false in 
+    let p = err_from_is_err_and c.from_residual-in_err-token-3.result c.from_residual-in_err-token-3.ensures.1 in let a = sym c.is_at.ensures ∙ c.if-is_at.false in let b = sym c.is_at-2.ensures ∙ c.if-is_at-2.false in let d = sym c.is_mark.ensures ∙ c.if-is_mark.false in
     rw (p.1, p.2) (fails_sub (fails_right a (fails_right b (fails_right d (fails_first (c.in_err-token-3.ensures))))))
 
 pub word_prim-returns-in_err-text-2 : goal.word_prim-returns-in_err-text-2
@@ -207,27 +207,27 @@ word_prim-returns-then-not-is_mark t c = let a = sym c.is_at.ensures ∙ c.if-is
 
 pub word_prim-returns-in_err-mark-2 : goal.word_prim-returns-in_err-mark-2
 word_prim-returns-in_err-mark-2 t c =
-    let p = err_from_is_err_and c.from_residual-in_err-mark-2.result c.from_residual-in_err-mark-2.ensures.1 in let a = sym c.is_at.ensures ∙ c.if-is_at.false in let b = sym c.is_at-2.ensures ∙ c.if-is_at-2.false in let d = sym c.is_mark.ensures ∙ c.if-is_mark.false in let x = sym c.is_mark-2.ensures ∙ c.if-not-is_mark.false in 
+    let p = err_from_is_err_and c.from_residual-in_err-mark-2.result c.from_residual-in_err-mark-2.ensures.1 in let a = sym c.is_at.ensures ∙ c.if-is_at.false in let b = sym c.is_at-2.ensures ∙ c.if-is_at-2.false in let d = sym c.is_mark.ensures ∙ c.if-is_mark.false in let x = sym c.is_mark-2.ensures ∙ c.if-not-is_mark.false in
     rw (p.1, p.2) (fails_sub (fails_right a (fails_right b (fails_right d (fails_second c.in_ok-token-3.ensures.0.reads (fails_left x (fails_first (c.in_err-mark-2.ensures))))))))
 
 pub word_prim-returns-in_err-inner-2 : goal.word_prim-returns-in_err-inner-2
 word_prim-returns-in_err-inner-2 t c =
-    let p = err_from_is_err_and c.from_residual-in_err-inner-2.result c.from_residual-in_err-inner-2.ensures.1 in let a = sym c.is_at.ensures ∙ c.if-is_at.false in let b = sym c.is_at-2.ensures ∙ c.if-is_at-2.false in let d = sym c.is_mark.ensures ∙ c.if-is_mark.false in let x = sym c.is_mark-2.ensures ∙ c.if-not-is_mark.false in 
+    let p = err_from_is_err_and c.from_residual-in_err-inner-2.result c.from_residual-in_err-inner-2.ensures.1 in let a = sym c.is_at.ensures ∙ c.if-is_at.false in let b = sym c.is_at-2.ensures ∙ c.if-is_at-2.false in let d = sym c.is_mark.ensures ∙ c.if-is_mark.false in let x = sym c.is_mark-2.ensures ∙ c.if-not-is_mark.false in
     rw (p.1, p.2) (fails_sub (fails_right a (fails_right b (fails_right d (fails_second c.in_ok-token-3.ensures.0.reads (fails_left x (fails_second c.in_ok-mark-2.ensures.takes.reads (fails_first (c.in_err-inner-2.ensures)))))))))
 
 pub word_prim-returns-in_err-mark-3 : goal.word_prim-returns-in_err-mark-3
 word_prim-returns-in_err-mark-3 t c =
-    let p = err_from_is_err_and c.from_residual-in_err-mark-3.result c.from_residual-in_err-mark-3.ensures.1 in let a = sym c.is_at.ensures ∙ c.if-is_at.false in let b = sym c.is_at-2.ensures ∙ c.if-is_at-2.false in let d = sym c.is_mark.ensures ∙ c.if-is_mark.false in let x = sym c.is_mark-2.ensures ∙ c.if-not-is_mark.false in 
+    let p = err_from_is_err_and c.from_residual-in_err-mark-3.result c.from_residual-in_err-mark-3.ensures.1 in let a = sym c.is_at.ensures ∙ c.if-is_at.false in let b = sym c.is_at-2.ensures ∙ c.if-is_at-2.false in let d = sym c.is_mark.ensures ∙ c.if-is_mark.false in let x = sym c.is_mark-2.ensures ∙ c.if-not-is_mark.false in
     rw (p.1, p.2) (fails_sub (fails_right a (fails_right b (fails_right d (fails_second c.in_ok-token-3.ensures.0.reads (fails_left x (fails_second c.in_ok-mark-2.ensures.takes.reads (fails_second c.in_ok-inner-2.ensures (fails_first (c.in_err-mark-3.ensures))))))))))
 
 pub word_prim-returns-in_err-width : goal.word_prim-returns-in_err-width
 word_prim-returns-in_err-width t c =
-    let p = err_from_is_err_and c.from_residual-in_err-width.result c.from_residual-in_err-width.ensures.1 in let a = sym c.is_at.ensures ∙ c.if-is_at.false in let b = sym c.is_at-2.ensures ∙ c.if-is_at-2.false in let d = sym c.is_mark.ensures ∙ c.if-is_mark.false in let x = sym c.is_mark-2.ensures ∙ c.if-not-is_mark.false in 
+    let p = err_from_is_err_and c.from_residual-in_err-width.result c.from_residual-in_err-width.ensures.1 in let a = sym c.is_at.ensures ∙ c.if-is_at.false in let b = sym c.is_at-2.ensures ∙ c.if-is_at-2.false in let d = sym c.is_mark.ensures ∙ c.if-is_mark.false in let x = sym c.is_mark-2.ensures ∙ c.if-not-is_mark.false in
     rw (p.1, p.2) (fails_sub (fails_right a (fails_right b (fails_right d (fails_second c.in_ok-token-3.ensures.0.reads (fails_left x (fails_second c.in_ok-mark-2.ensures.takes.reads (fails_second c.in_ok-inner-2.ensures (fails_second c.in_ok-mark-3.ensures.takes.reads (fails_first (c.in_err-width.ensures)))))))))))
 
 pub word_prim-returns-in_err-mark-4 : goal.word_prim-returns-in_err-mark-4
 word_prim-returns-in_err-mark-4 t c =
-    let p = err_from_is_err_and c.from_residual-in_err-mark-4.result c.from_residual-in_err-mark-4.ensures.1 in let a = sym c.is_at.ensures ∙ c.if-is_at.false in let b = sym c.is_at-2.ensures ∙ c.if-is_at-2.false in let d = sym c.is_mark.ensures ∙ c.if-is_mark.false in let x = sym c.is_mark-2.ensures ∙ c.if-not-is_mark.false in 
+    let p = err_from_is_err_and c.from_residual-in_err-mark-4.result c.from_residual-in_err-mark-4.ensures.1 in let a = sym c.is_at.ensures ∙ c.if-is_at.false in let b = sym c.is_at-2.ensures ∙ c.if-is_at-2.false in let d = sym c.is_mark.ensures ∙ c.if-is_mark.false in let x = sym c.is_mark-2.ensures ∙ c.if-not-is_mark.false in
     rw (p.1, p.2) (fails_sub (fails_right a (fails_right b (fails_right d (fails_second c.in_ok-token-3.ensures.0.reads (fails_left x (fails_second c.in_ok-mark-2.ensures.takes.reads (fails_second c.in_ok-inner-2.ensures (fails_second c.in_ok-mark-3.ensures.takes.reads (fails_second c.in_ok-width.ensures.reads (c.in_err-mark-4.ensures)))))))))))
 
 pub word_prim-returns-in_err-made-2 : goal.word_prim-returns-in_err-made-2

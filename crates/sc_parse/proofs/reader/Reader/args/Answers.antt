@@ -17,7 +17,7 @@ returns-then-not-begins c = let b = sym c.begins.ensures ∙ c.if-not-begins.tru
 
 pub returns-in_err-items : goal.returns-in_err-items
 returns-in_err-items c =
-    let p = err_from_is_err_and c.from_residual.result c.from_residual.ensures.1 in let b = sym c.begins.ensures ∙ c.if-not-begins.false in 
+    let p = err_from_is_err_and c.from_residual.result c.from_residual.ensures.1 in let b = sym c.begins.ensures ∙ c.if-not-begins.false in
     rw (p.1, p.2) (fails_left b (c.in_err-items.ensures))
 
 pub returns : goal.returns

@@ -20,7 +20,7 @@ items-init c = rw c.new-items.ensures (none_yet _ _ _ _ c.requires.within)
 
 pub returns-in_err-next : goal.returns-in_err-next
 returns-in_err-next c =
-    let p = err_from_is_err_and c.from_residual.result c.from_residual.ensures.1 in let b = sym c.begins.ensures ∙ c.items-test.true in 
+    let p = err_from_is_err_and c.from_residual.result c.from_residual.ensures.1 in let b = sym c.begins.ensures ∙ c.items-test.true in
     rw (p.1, p.2) (repeats_not _ _ _ _ _ _ _ c.items.invariant b c.in_err-next.ensures.cases)
 
 pub returns-in_err-push : goal.returns-in_err-push

@@ -14,12 +14,12 @@ use Rattle.sc_parse.proofs.reader.Reader.decl.Goals as goal
 
 pub returns-in_err-name : goal.returns-in_err-name
 returns-in_err-name c =
-    let p = err_from_is_err_and c.from_residual.result c.from_residual.ensures.1 in 
+    let p = err_from_is_err_and c.from_residual.result c.from_residual.ensures.1 in
     rw (p.1, p.2) (fails_sub (fails_first (c.in_err-name.ensures)))
 
 pub returns-in_err-size : goal.returns-in_err-size
 returns-in_err-size c =
-    let p = err_from_is_err_and c.from_residual-in_err-size.result c.from_residual-in_err-size.ensures.1 in 
+    let p = err_from_is_err_and c.from_residual-in_err-size.result c.from_residual-in_err-size.ensures.1 in
     rw (p.1, p.2) (fails_sub (fails_second c.in_ok-name.ensures.reads (c.in_err-size.ensures)))
 
 pub returns : goal.returns

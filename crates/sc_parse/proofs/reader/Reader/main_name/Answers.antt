@@ -17,7 +17,7 @@ use Rattle.sc_parse.proofs.reader.Reader.main_name.Goals as goal
 
 pub returns-in_err-token : goal.returns-in_err-token
 returns-in_err-token c =
-    let p = err_from_is_err_and c.from_residual.result c.from_residual.ensures.1 in 
+    let p = err_from_is_err_and c.from_residual.result c.from_residual.ensures.1 in
     rw (p.1, p.2) (fails_sub (c.in_err-token.ensures))
 
 pub returns : goal.returns

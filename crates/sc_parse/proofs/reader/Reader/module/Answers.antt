@@ -17,42 +17,42 @@ use Rattle.sc_parse.proofs.reader.Reader.module.Goals as goal
 
 pub returns-in_err-name-clause-cases : goal.returns-in_err-name-clause-cases
 returns-in_err-name-clause-cases c =
-    let p = err_from_is_err_and c.from_residual.result c.from_residual.ensures.1 in 
+    let p = err_from_is_err_and c.from_residual.result c.from_residual.ensures.1 in
     rw (p.1, p.2) (fails_sub (fails_first (c.in_err-name.ensures.cases)))
 
 pub returns-in_err-mark-clause-cases : goal.returns-in_err-mark-clause-cases
 returns-in_err-mark-clause-cases c =
-    let p = err_from_is_err_and c.from_residual-in_err-mark.result c.from_residual-in_err-mark.ensures.1 in 
+    let p = err_from_is_err_and c.from_residual-in_err-mark.result c.from_residual-in_err-mark.ensures.1 in
     rw (p.1, p.2) (fails_sub (fails_second c.in_ok-name.ensures.cases.reads (fails_first (c.in_err-mark.ensures))))
 
 pub returns-in_err-params-clause-cases : goal.returns-in_err-params-clause-cases
 returns-in_err-params-clause-cases c =
-    let p = err_from_is_err_and c.from_residual-in_err-params.result c.from_residual-in_err-params.ensures.1 in 
+    let p = err_from_is_err_and c.from_residual-in_err-params.result c.from_residual-in_err-params.ensures.1 in
     rw (p.1, p.2) (fails_sub (fails_second c.in_ok-name.ensures.cases.reads (fails_second c.in_ok-mark.ensures.takes.reads (fails_first (c.in_err-params.ensures)))))
 
 pub returns-in_err-mark-2-clause-cases : goal.returns-in_err-mark-2-clause-cases
 returns-in_err-mark-2-clause-cases c =
-    let p = err_from_is_err_and c.from_residual-in_err-mark-2.result c.from_residual-in_err-mark-2.ensures.1 in 
+    let p = err_from_is_err_and c.from_residual-in_err-mark-2.result c.from_residual-in_err-mark-2.ensures.1 in
     rw (p.1, p.2) (fails_sub (fails_second c.in_ok-name.ensures.cases.reads (fails_second c.in_ok-mark.ensures.takes.reads (fails_second c.in_ok-params.ensures.reads (fails_first (c.in_err-mark-2.ensures))))))
 
 pub returns-in_err-mark-3-clause-cases : goal.returns-in_err-mark-3-clause-cases
 returns-in_err-mark-3-clause-cases c =
-    let p = err_from_is_err_and c.from_residual-in_err-mark-3.result c.from_residual-in_err-mark-3.ensures.1 in 
+    let p = err_from_is_err_and c.from_residual-in_err-mark-3.result c.from_residual-in_err-mark-3.ensures.1 in
     rw (p.1, p.2) (fails_sub (fails_second c.in_ok-name.ensures.cases.reads (fails_second c.in_ok-mark.ensures.takes.reads (fails_second c.in_ok-params.ensures.reads (fails_second c.in_ok-mark-2.ensures.takes.reads (fails_first (c.in_err-mark-3.ensures)))))))
 
 pub returns-in_err-body-clause-cases : goal.returns-in_err-body-clause-cases
 returns-in_err-body-clause-cases c =
-    let p = err_from_is_err_and c.from_residual-in_err-body.result c.from_residual-in_err-body.ensures.1 in 
+    let p = err_from_is_err_and c.from_residual-in_err-body.result c.from_residual-in_err-body.ensures.1 in
     rw (p.1, p.2) (fails_sub (fails_second c.in_ok-name.ensures.cases.reads (fails_second c.in_ok-mark.ensures.takes.reads (fails_second c.in_ok-params.ensures.reads (fails_second c.in_ok-mark-2.ensures.takes.reads (fails_second c.in_ok-mark-3.ensures.takes.reads (fails_first (c.in_err-body.ensures))))))))
 
 pub returns-in_err-returned-clause-cases : goal.returns-in_err-returned-clause-cases
 returns-in_err-returned-clause-cases c =
-    let p = err_from_is_err_and c.from_residual-in_err-returned.result c.from_residual-in_err-returned.ensures.1 in 
+    let p = err_from_is_err_and c.from_residual-in_err-returned.result c.from_residual-in_err-returned.ensures.1 in
     rw (p.1, p.2) (fails_sub (fails_second c.in_ok-name.ensures.cases.reads (fails_second c.in_ok-mark.ensures.takes.reads (fails_second c.in_ok-params.ensures.reads (fails_second c.in_ok-mark-2.ensures.takes.reads (fails_second c.in_ok-mark-3.ensures.takes.reads (fails_second c.in_ok-body.ensures (fails_first (c.in_err-returned.ensures)))))))))
 
 pub returns-in_err-mark-4-clause-cases : goal.returns-in_err-mark-4-clause-cases
 returns-in_err-mark-4-clause-cases c =
-    let p = err_from_is_err_and c.from_residual-in_err-mark-4.result c.from_residual-in_err-mark-4.ensures.1 in 
+    let p = err_from_is_err_and c.from_residual-in_err-mark-4.result c.from_residual-in_err-mark-4.ensures.1 in
     rw (p.1, p.2) (fails_sub (fails_second c.in_ok-name.ensures.cases.reads (fails_second c.in_ok-mark.ensures.takes.reads (fails_second c.in_ok-params.ensures.reads (fails_second c.in_ok-mark-2.ensures.takes.reads (fails_second c.in_ok-mark-3.ensures.takes.reads (fails_second c.in_ok-body.ensures (fails_second c.in_ok-returned.ensures.reads (c.in_err-mark-4.ensures)))))))))
 
 pub returns-clause-cases : goal.returns-clause-cases

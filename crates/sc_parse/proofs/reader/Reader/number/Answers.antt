@@ -14,7 +14,7 @@ use Rattle.sc_parse.proofs.reader.Reader.number.Goals as goal
 
 pub returns-in_err-place : goal.returns-in_err-place
 returns-in_err-place c =
-    let p = err_from_is_err_and c.from_residual.result c.from_residual.ensures.1 in let b0 = sym c.is_word.ensures ∙ c.if-is_word.true in 
+    let p = err_from_is_err_and c.from_residual.result c.from_residual.ensures.1 in let b0 = sym c.is_word.ensures ∙ c.if-is_word.true in
     rw (p.1, p.2) (fails_sub (fails_left b0 (c.in_err-place.ensures)))
 
 pub returns-then-is_word : goal.returns-then-is_word
@@ -22,7 +22,7 @@ returns-then-is_word c = let b0 = sym c.is_word.ensures ∙ c.if-is_word.true in
 
 pub returns-in_err-place-2 : goal.returns-in_err-place-2
 returns-in_err-place-2 c =
-    let p = err_from_is_err_and c.from_residual-in_err-place-2.result c.from_residual-in_err-place-2.ensures.1 in let b0 = sym c.is_word.ensures ∙ c.if-is_word.false in let b1 = sym c.is_word-2.ensures ∙ c.if-is_word-2.true in 
+    let p = err_from_is_err_and c.from_residual-in_err-place-2.result c.from_residual-in_err-place-2.ensures.1 in let b0 = sym c.is_word.ensures ∙ c.if-is_word.false in let b1 = sym c.is_word-2.ensures ∙ c.if-is_word-2.true in
     rw (p.1, p.2) (fails_sub (fails_right b0 (fails_left b1 (c.in_err-place-2.ensures))))
 
 pub returns-then-is_word-2 : goal.returns-then-is_word-2
@@ -30,7 +30,7 @@ returns-then-is_word-2 c = let b0 = sym c.is_word.ensures ∙ c.if-is_word.false
 
 pub returns-in_err-place-3 : goal.returns-in_err-place-3
 returns-in_err-place-3 c =
-    let p = err_from_is_err_and c.from_residual-in_err-place-3.result c.from_residual-in_err-place-3.ensures.1 in let b0 = sym c.is_word.ensures ∙ c.if-is_word.false in let b1 = sym c.is_word-2.ensures ∙ c.if-is_word-2.false in 
+    let p = err_from_is_err_and c.from_residual-in_err-place-3.result c.from_residual-in_err-place-3.ensures.1 in let b0 = sym c.is_word.ensures ∙ c.if-is_word.false in let b1 = sym c.is_word-2.ensures ∙ c.if-is_word-2.false in
     rw (p.1, p.2) (fails_sub (fails_right b0 (fails_right b1 (c.in_err-place-3.ensures))))
 
 pub returns : goal.returns

@@ -17,7 +17,7 @@ use Rattle.sc_parse.proofs.reader.Reader.params.Goals as goal
 
 pub returns-in_err-word : goal.returns-in_err-word
 returns-in_err-word c =
-    let p = err_from_is_err_and c.from_residual.result c.from_residual.ensures.1 in let a = sym c.is_word.ensures ∙ c.if-is_word.true in 
+    let p = err_from_is_err_and c.from_residual.result c.from_residual.ensures.1 in let a = sym c.is_word.ensures ∙ c.if-is_word.true in
     rw (p.1, p.2) (fails_left a (c.in_err-word.ensures))
 
 pub returns-then-is_word : goal.returns-then-is_word
@@ -28,7 +28,7 @@ returns-then-not-begins c = let a = sym c.is_word.ensures ∙ c.if-is_word.false
 
 pub returns-in_err-items : goal.returns-in_err-items
 returns-in_err-items c =
-    let p = err_from_is_err_and c.from_residual-in_err-items.result c.from_residual-in_err-items.ensures.1 in let a = sym c.is_word.ensures ∙ c.if-is_word.false in let b = sym c.begins.ensures ∙ c.if-not-begins.false in 
+    let p = err_from_is_err_and c.from_residual-in_err-items.result c.from_residual-in_err-items.ensures.1 in let a = sym c.is_word.ensures ∙ c.if-is_word.false in let b = sym c.begins.ensures ∙ c.if-not-begins.false in
     rw (p.1, p.2) (fails_right a (fails_left b (c.in_err-items.ensures)))
 
 pub returns : goal.returns

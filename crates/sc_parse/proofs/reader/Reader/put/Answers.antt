@@ -14,12 +14,12 @@ use Rattle.sc_parse.proofs.reader.Reader.put.Goals as goal
 
 pub returns-in_err-place-clause-cases : goal.returns-in_err-place-clause-cases
 returns-in_err-place-clause-cases c =
-    let p = err_from_is_err_and c.from_residual.result c.from_residual.ensures.1 in 
+    let p = err_from_is_err_and c.from_residual.result c.from_residual.ensures.1 in
     rw (p.1, p.2) (fails_first (c.in_err-place.ensures))
 
 pub returns-in_err-gate-clause-cases : goal.returns-in_err-gate-clause-cases
 returns-in_err-gate-clause-cases c =
-    let p = err_from_is_err_and c.from_residual-in_err-gate.result c.from_residual-in_err-gate.ensures.1 in let b = sym c.begins.ensures ∙ c.if-begins.true in 
+    let p = err_from_is_err_and c.from_residual-in_err-gate.result c.from_residual-in_err-gate.ensures.1 in let b = sym c.begins.ensures ∙ c.if-begins.true in
     rw (p.1, p.2) (fails_second c.in_ok-place.ensures.takes.reads (fails_left b (c.in_err-gate.ensures)))
 
 pub returns-then-begins-clause-cases : goal.returns-then-begins-clause-cases
@@ -27,7 +27,7 @@ returns-then-begins-clause-cases c = let b = sym c.begins.ensures ∙ c.if-begin
 
 pub returns-in_err-value-clause-cases : goal.returns-in_err-value-clause-cases
 returns-in_err-value-clause-cases c =
-    let p = err_from_is_err_and c.from_residual-in_err-value.result c.from_residual-in_err-value.ensures.1 in let b = sym c.begins.ensures ∙ c.if-begins.false in 
+    let p = err_from_is_err_and c.from_residual-in_err-value.result c.from_residual-in_err-value.ensures.1 in let b = sym c.begins.ensures ∙ c.if-begins.false in
     rw (p.1, p.2) (fails_second c.in_ok-place.ensures.takes.reads (fails_right b (c.in_err-value.ensures)))
 
 pub returns-clause-cases : goal.returns-clause-cases

@@ -20,17 +20,17 @@ returns-then-not-is_word c = let b = sym c.is_word.ensures ∙ c.if-not-is_word.
 
 pub returns-in_err-word : goal.returns-in_err-word
 returns-in_err-word c =
-    let p = err_from_is_err_and c.from_residual.result c.from_residual.ensures.1 in let b = sym c.is_word.ensures ∙ c.if-not-is_word.false in 
+    let p = err_from_is_err_and c.from_residual.result c.from_residual.ensures.1 in let b = sym c.is_word.ensures ∙ c.if-not-is_word.false in
     rw (p.1, p.2) (fails_left b (fails_first (c.in_err-word.ensures)))
 
 pub returns-in_err-skip_int : goal.returns-in_err-skip_int
 returns-in_err-skip_int c =
-    let p = err_from_is_err_and c.from_residual-in_err-skip_int.result c.from_residual-in_err-skip_int.ensures.1 in let b = sym c.is_word.ensures ∙ c.if-not-is_word.false in 
+    let p = err_from_is_err_and c.from_residual-in_err-skip_int.result c.from_residual-in_err-skip_int.ensures.1 in let b = sym c.is_word.ensures ∙ c.if-not-is_word.false in
     rw (p.1, p.2) (fails_left b (fails_second c.in_ok-word.ensures.takes.reads (fails_first (c.in_err-skip_int.ensures))))
 
 pub returns-in_err-mark : goal.returns-in_err-mark
 returns-in_err-mark c =
-    let p = err_from_is_err_and c.from_residual-in_err-mark.result c.from_residual-in_err-mark.ensures.1 in let b = sym c.is_word.ensures ∙ c.if-not-is_word.false in 
+    let p = err_from_is_err_and c.from_residual-in_err-mark.result c.from_residual-in_err-mark.ensures.1 in let b = sym c.is_word.ensures ∙ c.if-not-is_word.false in
     rw (p.1, p.2) (fails_left b (fails_second c.in_ok-word.ensures.takes.reads (fails_second c.in_ok-skip_int.ensures.reads (c.in_err-mark.ensures))))
 
 pub returns : goal.returns

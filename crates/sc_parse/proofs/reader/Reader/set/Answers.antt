@@ -14,12 +14,12 @@ use Rattle.sc_parse.proofs.reader.Reader.set.Goals as goal
 
 pub returns-in_err-name : goal.returns-in_err-name
 returns-in_err-name c =
-    let p = err_from_is_err_and c.from_residual.result c.from_residual.ensures.1 in let b = sym c.begins.ensures ∙ c.if-begins.true in 
+    let p = err_from_is_err_and c.from_residual.result c.from_residual.ensures.1 in let b = sym c.begins.ensures ∙ c.if-begins.true in
     rw (p.1, p.2) (fails_sub (fails_left b (fails_first (c.in_err-name.ensures))))
 
 pub returns-in_err-made : goal.returns-in_err-made
 returns-in_err-made c =
-    let p = err_from_is_err_and c.from_residual-in_err-made.result c.from_residual-in_err-made.ensures.1 in let b = sym c.begins.ensures ∙ c.if-begins.true in 
+    let p = err_from_is_err_and c.from_residual-in_err-made.result c.from_residual-in_err-made.ensures.1 in let b = sym c.begins.ensures ∙ c.if-begins.true in
     rw (p.1, p.2) (fails_sub (fails_left b (fails_second c.in_ok-name.ensures.reads (c.in_err-made.ensures.cases))))
 
 pub returns-then-begins : goal.returns-then-begins
@@ -27,7 +27,7 @@ returns-then-begins c = let b = sym c.begins.ensures ∙ c.if-begins.true in rea
 
 pub returns-in_err-made-2 : goal.returns-in_err-made-2
 returns-in_err-made-2 c =
-    let p = err_from_is_err_and c.from_residual-in_err-made-2.result c.from_residual-in_err-made-2.ensures.1 in let b = sym c.begins.ensures ∙ c.if-begins.false in 
+    let p = err_from_is_err_and c.from_residual-in_err-made-2.result c.from_residual-in_err-made-2.ensures.1 in let b = sym c.begins.ensures ∙ c.if-begins.false in
     rw (p.1, p.2) (fails_sub (fails_right b (c.in_err-made-2.ensures.cases)))
 
 pub returns : goal.returns

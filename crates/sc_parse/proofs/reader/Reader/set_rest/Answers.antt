@@ -14,7 +14,7 @@ use Rattle.sc_parse.proofs.reader.Reader.set_rest.Goals as goal
 
 pub returns-in_err-made-clause-cases : goal.returns-in_err-made-clause-cases
 returns-in_err-made-clause-cases c =
-    let p = err_from_is_err_and c.from_residual.result c.from_residual.ensures.1 in let a = sym c.is_mark.ensures ∙ c.if-is_mark.true in 
+    let p = err_from_is_err_and c.from_residual.result c.from_residual.ensures.1 in let a = sym c.is_mark.ensures ∙ c.if-is_mark.true in
     rw (p.1, p.2) (fails_left a (c.in_err-made.ensures.cases))
 
 pub returns-then-is_mark-clause-cases : goal.returns-then-is_mark-clause-cases
@@ -22,7 +22,7 @@ returns-then-is_mark-clause-cases c = let a = sym c.is_mark.ensures ∙ c.if-is_
 
 pub returns-in_err-made-2-clause-cases : goal.returns-in_err-made-2-clause-cases
 returns-in_err-made-2-clause-cases c =
-    let p = err_from_is_err_and c.from_residual-in_err-made-2.result c.from_residual-in_err-made-2.ensures.1 in let a = sym c.is_mark.ensures ∙ c.if-is_mark.false in let b = sym c.is_mark-2.ensures ∙ c.if-is_mark-2.true in 
+    let p = err_from_is_err_and c.from_residual-in_err-made-2.result c.from_residual-in_err-made-2.ensures.1 in let a = sym c.is_mark.ensures ∙ c.if-is_mark.false in let b = sym c.is_mark-2.ensures ∙ c.if-is_mark-2.true in
     rw (p.1, p.2) (fails_right a (fails_left b (c.in_err-made-2.ensures.cases)))
 
 pub returns-then-is_mark-2-clause-cases : goal.returns-then-is_mark-2-clause-cases
@@ -30,12 +30,12 @@ returns-then-is_mark-2-clause-cases c = let a = sym c.is_mark.ensures ∙ c.if-i
 
 pub returns-in_err-mark-clause-cases : goal.returns-in_err-mark-clause-cases
 returns-in_err-mark-clause-cases c =
-    let p = err_from_is_err_and c.from_residual-in_err-mark.result c.from_residual-in_err-mark.ensures.1 in let a = sym c.is_mark.ensures ∙ c.if-is_mark.false in let b = sym c.is_mark-2.ensures ∙ c.if-is_mark-2.false in let d = sym c.is_one_of.ensures ∙ c.if-is_one_of.true in 
+    let p = err_from_is_err_and c.from_residual-in_err-mark.result c.from_residual-in_err-mark.ensures.1 in let a = sym c.is_mark.ensures ∙ c.if-is_mark.false in let b = sym c.is_mark-2.ensures ∙ c.if-is_mark-2.false in let d = sym c.is_one_of.ensures ∙ c.if-is_one_of.true in
     rw (p.1, p.2) (fails_right a (fails_right b (fails_left d (fails_first (c.in_err-mark.ensures)))))
 
 pub returns-in_err-value-clause-cases : goal.returns-in_err-value-clause-cases
 returns-in_err-value-clause-cases c =
-    let p = err_from_is_err_and c.from_residual-in_err-value.result c.from_residual-in_err-value.ensures.1 in let a = sym c.is_mark.ensures ∙ c.if-is_mark.false in let b = sym c.is_mark-2.ensures ∙ c.if-is_mark-2.false in let d = sym c.is_one_of.ensures ∙ c.if-is_one_of.true in 
+    let p = err_from_is_err_and c.from_residual-in_err-value.result c.from_residual-in_err-value.ensures.1 in let a = sym c.is_mark.ensures ∙ c.if-is_mark.false in let b = sym c.is_mark-2.ensures ∙ c.if-is_mark-2.false in let d = sym c.is_one_of.ensures ∙ c.if-is_one_of.true in
     rw (p.1, p.2) (fails_right a (fails_right b (fails_left d (fails_second c.in_ok-mark.ensures.token.takes.reads (c.in_err-value.ensures)))))
 
 pub set-made-requires : goal.set-made-requires
@@ -46,7 +46,7 @@ returns-then-is_one_of-clause-cases c = let a = sym c.is_mark.ensures ∙ c.if-i
 
 pub returns-in_err-mark-2-clause-cases : goal.returns-in_err-mark-2-clause-cases
 returns-in_err-mark-2-clause-cases c =
-    let p = err_from_is_err_and c.from_residual-in_err-mark-2.result c.from_residual-in_err-mark-2.ensures.1 in let a = sym c.is_mark.ensures ∙ c.if-is_mark.false in let b = sym c.is_mark-2.ensures ∙ c.if-is_mark-2.false in let d = sym c.is_one_of.ensures ∙ c.if-is_one_of.false in 
+    let p = err_from_is_err_and c.from_residual-in_err-mark-2.result c.from_residual-in_err-mark-2.ensures.1 in let a = sym c.is_mark.ensures ∙ c.if-is_mark.false in let b = sym c.is_mark-2.ensures ∙ c.if-is_mark-2.false in let d = sym c.is_one_of.ensures ∙ c.if-is_one_of.false in
     rw (p.1, p.2) (fails_right a (fails_right b (fails_right d (c.in_err-mark-2.ensures))))
 
 pub stepped-made-requires : goal.stepped-made-requires

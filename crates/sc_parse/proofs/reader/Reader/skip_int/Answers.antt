@@ -20,7 +20,7 @@ returns-then-not-is_at c = let b = sym c.is_at.ensures ∙ c.if-not-is_at.true i
 
 pub returns-in_err-take : goal.returns-in_err-take
 returns-in_err-take c =
-    let p = err_from_is_err_and c.from_residual.result c.from_residual.ensures.1 in let b = sym c.is_at.ensures ∙ c.if-not-is_at.false in 
+    let p = err_from_is_err_and c.from_residual.result c.from_residual.ensures.1 in let b = sym c.is_at.ensures ∙ c.if-not-is_at.false in
     rw (p.1, p.2) (fails_left b (c.in_err-take.ensures))
 
 pub returns : goal.returns

@@ -17,7 +17,7 @@ use Rattle.sc_parse.proofs.reader.Reader.some_params.Goals as goal
 
 pub returns-in_err-first : goal.returns-in_err-first
 returns-in_err-first c =
-    let p = err_from_is_err_and c.from_residual.result c.from_residual.ensures.1 in 
+    let p = err_from_is_err_and c.from_residual.result c.from_residual.ensures.1 in
     rw (p.1, p.2) (fails_first (c.in_err-first.ensures))
 
 pub returns-in_err-push : goal.returns-in_err-push
@@ -30,12 +30,12 @@ items-init c = listed_start _ _ _ _ _ _ _ c.in_ok-first.ensures.within refl
 
 pub returns-in_err-mark : goal.returns-in_err-mark
 returns-in_err-mark c =
-    let p = err_from_is_err_and c.from_residual-in_err-mark.result c.from_residual-in_err-mark.ensures.1 in let b = sym c.is_mark.ensures ∙ c.items-test.true in 
+    let p = err_from_is_err_and c.from_residual-in_err-mark.result c.from_residual-in_err-mark.ensures.1 in let b = sym c.is_mark.ensures ∙ c.items-test.true in
     rw (p.1, p.2) (fails_second c.in_ok-first.ensures (repeats_not _ _ _ _ _ _ _ c.items.invariant.repeated b (fails_first (c.in_err-mark.ensures))))
 
 pub returns-in_err-next : goal.returns-in_err-next
 returns-in_err-next c =
-    let p = err_from_is_err_and c.from_residual-in_err-next.result c.from_residual-in_err-next.ensures.1 in let b = sym c.is_mark.ensures ∙ c.items-test.true in 
+    let p = err_from_is_err_and c.from_residual-in_err-next.result c.from_residual-in_err-next.ensures.1 in let b = sym c.is_mark.ensures ∙ c.items-test.true in
     rw (p.1, p.2) (fails_second c.in_ok-first.ensures (repeats_not _ _ _ _ _ _ _ c.items.invariant.repeated b (fails_second c.in_ok-mark.ensures.takes.reads (c.in_err-next.ensures))))
 
 pub returns-in_err-push-2 : goal.returns-in_err-push-2

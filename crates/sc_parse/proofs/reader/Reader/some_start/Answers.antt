@@ -14,7 +14,7 @@ use Rattle.sc_parse.proofs.reader.Reader.some_start.Goals as goal
 
 pub returns-in_err-sort : goal.returns-in_err-sort
 returns-in_err-sort c =
-    let p = err_from_is_err_and c.from_residual.result c.from_residual.ensures.1 in let b = sym c.begins.ensures ∙ c.if-begins.true in 
+    let p = err_from_is_err_and c.from_residual.result c.from_residual.ensures.1 in let b = sym c.begins.ensures ∙ c.if-begins.true in
     rw (p.1, p.2) (fails_sub (fails_left b (c.in_err-sort.ensures.cases)))
 
 pub returns-then-begins : goal.returns-then-begins
@@ -22,7 +22,7 @@ returns-then-begins c = let b = sym c.begins.ensures ∙ c.if-begins.true in rea
 
 pub returns-in_err-made : goal.returns-in_err-made
 returns-in_err-made c =
-    let p = err_from_is_err_and c.from_residual-in_err-made.result c.from_residual-in_err-made.ensures.1 in let b = sym c.begins.ensures ∙ c.if-begins.false in 
+    let p = err_from_is_err_and c.from_residual-in_err-made.result c.from_residual-in_err-made.ensures.1 in let b = sym c.begins.ensures ∙ c.if-begins.false in
     rw (p.1, p.2) (fails_sub (fails_right b (c.in_err-made.ensures)))
 
 pub returns : goal.returns

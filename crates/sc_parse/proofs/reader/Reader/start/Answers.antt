@@ -17,7 +17,7 @@ returns-then-not-begins c = let b = sym c.begins.ensures ∙ c.if-not-begins.tru
 
 pub returns-in_err-start : goal.returns-in_err-start
 returns-in_err-start c =
-    let p = err_from_is_err_and c.from_residual.result c.from_residual.ensures.1 in let b = sym c.begins.ensures ∙ c.if-not-begins.false in 
+    let p = err_from_is_err_and c.from_residual.result c.from_residual.ensures.1 in let b = sym c.begins.ensures ∙ c.if-not-begins.false in
     rw (p.1, p.2) (fails_left b (c.in_err-start.ensures))
 
 pub returns-in_err-boxed : goal.returns-in_err-boxed

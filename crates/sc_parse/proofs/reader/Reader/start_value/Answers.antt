@@ -17,12 +17,12 @@ returns-then-not-is_mark c = let b = sym c.is_mark.ensures ∙ c.if-not-is_mark.
 
 pub returns-in_err-mark : goal.returns-in_err-mark
 returns-in_err-mark c =
-    let p = err_from_is_err_and c.from_residual.result c.from_residual.ensures.1 in let b = sym c.is_mark.ensures ∙ c.if-not-is_mark.false in 
+    let p = err_from_is_err_and c.from_residual.result c.from_residual.ensures.1 in let b = sym c.is_mark.ensures ∙ c.if-not-is_mark.false in
     rw (p.1, p.2) (fails_left b (fails_first (c.in_err-mark.ensures)))
 
 pub returns-in_err-value : goal.returns-in_err-value
 returns-in_err-value c =
-    let p = err_from_is_err_and c.from_residual-in_err-value.result c.from_residual-in_err-value.ensures.1 in let b = sym c.is_mark.ensures ∙ c.if-not-is_mark.false in 
+    let p = err_from_is_err_and c.from_residual-in_err-value.result c.from_residual-in_err-value.ensures.1 in let b = sym c.is_mark.ensures ∙ c.if-not-is_mark.false in
     rw (p.1, p.2) (fails_left b (fails_second c.in_ok-mark.ensures.takes.reads (c.in_err-value.ensures)))
 
 pub returns : goal.returns

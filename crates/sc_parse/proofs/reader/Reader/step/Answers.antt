@@ -14,12 +14,12 @@ use Rattle.sc_parse.proofs.reader.Reader.step.Goals as goal
 
 pub returns-in_err-name-clause-cases : goal.returns-in_err-name-clause-cases
 returns-in_err-name-clause-cases c =
-    let p = err_from_is_err_and c.from_residual.result c.from_residual.ensures.1 in let a = sym c.begins.ensures ∙ c.if-begins.true in 
+    let p = err_from_is_err_and c.from_residual.result c.from_residual.ensures.1 in let a = sym c.begins.ensures ∙ c.if-begins.true in
     rw (p.1, p.2) (fails_sub (fails_left a (fails_first (c.in_err-name.ensures))))
 
 pub returns-in_err-args-clause-cases : goal.returns-in_err-args-clause-cases
 returns-in_err-args-clause-cases c =
-    let p = err_from_is_err_and c.from_residual-in_err-args.result c.from_residual-in_err-args.ensures.1 in let a = sym c.begins.ensures ∙ c.if-begins.true in let b = sym c.is_mark.ensures ∙ c.if-is_mark.true in 
+    let p = err_from_is_err_and c.from_residual-in_err-args.result c.from_residual-in_err-args.ensures.1 in let a = sym c.begins.ensures ∙ c.if-begins.true in let b = sym c.is_mark.ensures ∙ c.if-is_mark.true in
     rw (p.1, p.2) (fails_sub (fails_left a (fails_second c.in_ok-name.ensures.reads (fails_left b (c.in_err-args.ensures.cases)))))
 
 pub returns-then-is_mark-clause-cases : goal.returns-then-is_mark-clause-cases
@@ -27,7 +27,7 @@ returns-then-is_mark-clause-cases c = let a = sym c.begins.ensures ∙ c.if-begi
 
 pub returns-in_err-made-clause-cases : goal.returns-in_err-made-clause-cases
 returns-in_err-made-clause-cases c =
-    let p = err_from_is_err_and c.from_residual-in_err-made.result c.from_residual-in_err-made.ensures.1 in let a = sym c.begins.ensures ∙ c.if-begins.true in let b = sym c.is_mark.ensures ∙ c.if-is_mark.false in 
+    let p = err_from_is_err_and c.from_residual-in_err-made.result c.from_residual-in_err-made.ensures.1 in let a = sym c.begins.ensures ∙ c.if-begins.true in let b = sym c.is_mark.ensures ∙ c.if-is_mark.false in
     rw (p.1, p.2) (fails_sub (fails_left a (fails_second c.in_ok-name.ensures.reads (fails_right b (c.in_err-made.ensures.cases)))))
 
 pub returns-then-begins-clause-cases : goal.returns-then-begins-clause-cases
@@ -35,7 +35,7 @@ returns-then-begins-clause-cases c = let a = sym c.begins.ensures ∙ c.if-begin
 
 pub returns-in_err-made-2-clause-cases : goal.returns-in_err-made-2-clause-cases
 returns-in_err-made-2-clause-cases c =
-    let p = err_from_is_err_and c.from_residual-in_err-made-2.result c.from_residual-in_err-made-2.ensures.1 in let a = sym c.begins.ensures ∙ c.if-begins.false in let d = sym c.is_one_of.ensures ∙ c.if-is_one_of.true in 
+    let p = err_from_is_err_and c.from_residual-in_err-made-2.result c.from_residual-in_err-made-2.ensures.1 in let a = sym c.begins.ensures ∙ c.if-begins.false in let d = sym c.is_one_of.ensures ∙ c.if-is_one_of.true in
     rw (p.1, p.2) (fails_sub (fails_right a (fails_left d (c.in_err-made-2.ensures.cases))))
 
 pub returns-then-is_one_of-clause-cases : goal.returns-then-is_one_of-clause-cases
@@ -43,12 +43,12 @@ returns-then-is_one_of-clause-cases c = let a = sym c.begins.ensures ∙ c.if-be
 
 pub returns-in_err-token-clause-cases : goal.returns-in_err-token-clause-cases
 returns-in_err-token-clause-cases c =
-    let p = err_from_is_err_and c.from_residual-in_err-token.result c.from_residual-in_err-token.ensures.1 in let a = sym c.begins.ensures ∙ c.if-begins.false in let d = sym c.is_one_of.ensures ∙ c.if-is_one_of.false in 
+    let p = err_from_is_err_and c.from_residual-in_err-token.result c.from_residual-in_err-token.ensures.1 in let a = sym c.begins.ensures ∙ c.if-begins.false in let d = sym c.is_one_of.ensures ∙ c.if-is_one_of.false in
     rw (p.1, p.2) (fails_sub (fails_right a (fails_right d (fails_first (c.in_err-token.ensures)))))
 
 pub returns-in_err-args-2-clause-cases : goal.returns-in_err-args-2-clause-cases
 returns-in_err-args-2-clause-cases c =
-    let p = err_from_is_err_and c.from_residual-in_err-args-2.result c.from_residual-in_err-args-2.ensures.1 in let a = sym c.begins.ensures ∙ c.if-begins.false in let d = sym c.is_one_of.ensures ∙ c.if-is_one_of.false in 
+    let p = err_from_is_err_and c.from_residual-in_err-args-2.result c.from_residual-in_err-args-2.ensures.1 in let a = sym c.begins.ensures ∙ c.if-begins.false in let d = sym c.is_one_of.ensures ∙ c.if-is_one_of.false in
     rw (p.1, p.2) (fails_sub (fails_right a (fails_right d (fails_second c.in_ok-token.ensures.0.reads (c.in_err-args-2.ensures.cases)))))
 
 pub gate-made-requires : goal.gate-made-requires

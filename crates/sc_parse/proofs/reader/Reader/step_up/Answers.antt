@@ -14,12 +14,12 @@ use Rattle.sc_parse.proofs.reader.Reader.step_up.Goals as goal
 
 pub returns-in_err-mark-clause-cases : goal.returns-in_err-mark-clause-cases
 returns-in_err-mark-clause-cases c =
-    let p = err_from_is_err_and c.from_residual.result c.from_residual.ensures.1 in 
+    let p = err_from_is_err_and c.from_residual.result c.from_residual.ensures.1 in
     rw (p.1, p.2) (fails_first (c.in_err-mark.ensures))
 
 pub returns-in_err-name-clause-cases : goal.returns-in_err-name-clause-cases
 returns-in_err-name-clause-cases c =
-    let p = err_from_is_err_and c.from_residual-in_err-name.result c.from_residual-in_err-name.ensures.1 in 
+    let p = err_from_is_err_and c.from_residual-in_err-name.result c.from_residual-in_err-name.ensures.1 in
     rw (p.1, p.2) (fails_second c.in_ok-mark.ensures.token.takes.reads (c.in_err-name.ensures))
 
 pub step-made-requires : goal.step-made-requires

@@ -14,7 +14,7 @@ use Rattle.sc_parse.proofs.reader.Reader.wire.Goals as goal
 
 pub returns-in_err-place : goal.returns-in_err-place
 returns-in_err-place c =
-    let p = err_from_is_err_and c.from_residual.result c.from_residual.ensures.1 in let b0 = sym c.is_word.ensures ∙ c.if-is_word.true in 
+    let p = err_from_is_err_and c.from_residual.result c.from_residual.ensures.1 in let b0 = sym c.is_word.ensures ∙ c.if-is_word.true in
     rw (p.1, p.2) (fails_sub (fails_left b0 (c.in_err-place.ensures)))
 
 pub returns-then-is_word : goal.returns-then-is_word
@@ -22,7 +22,7 @@ returns-then-is_word c = let b0 = sym c.is_word.ensures ∙ c.if-is_word.true in
 
 pub returns-in_err-place-2 : goal.returns-in_err-place-2
 returns-in_err-place-2 c =
-    let p = err_from_is_err_and c.from_residual-in_err-place-2.result c.from_residual-in_err-place-2.ensures.1 in let b0 = sym c.is_word.ensures ∙ c.if-is_word.false in 
+    let p = err_from_is_err_and c.from_residual-in_err-place-2.result c.from_residual-in_err-place-2.ensures.1 in let b0 = sym c.is_word.ensures ∙ c.if-is_word.false in
     rw (p.1, p.2) (fails_sub (fails_right b0 (c.in_err-place-2.ensures)))
 
 pub returns : goal.returns

@@ -14,17 +14,17 @@ use Rattle.sc_parse.proofs.reader.Reader.wires.Goals as goal
 
 pub returns-in_err-class-clause-cases : goal.returns-in_err-class-clause-cases
 returns-in_err-class-clause-cases c =
-    let p = err_from_is_err_and c.from_residual.result c.from_residual.ensures.1 in 
+    let p = err_from_is_err_and c.from_residual.result c.from_residual.ensures.1 in
     rw (p.1, p.2) (fails_first (fails_first (c.in_err-class.ensures)))
 
 pub returns-in_err-decls-clause-cases : goal.returns-in_err-decls-clause-cases
 returns-in_err-decls-clause-cases c =
-    let p = err_from_is_err_and c.from_residual-in_err-decls.result c.from_residual-in_err-decls.ensures.1 in 
+    let p = err_from_is_err_and c.from_residual-in_err-decls.result c.from_residual-in_err-decls.ensures.1 in
     rw (p.1, p.2) (fails_first (fails_second c.in_ok-class.ensures.reads (c.in_err-decls.ensures)))
 
 pub returns-in_err-mark-clause-cases : goal.returns-in_err-mark-clause-cases
 returns-in_err-mark-clause-cases c =
-    let p = err_from_is_err_and c.from_residual-in_err-mark.result c.from_residual-in_err-mark.ensures.1 in 
+    let p = err_from_is_err_and c.from_residual-in_err-mark.result c.from_residual-in_err-mark.ensures.1 in
     rw (p.1, p.2) (fails_second (reads_both c.in_ok-class.ensures.reads c.in_ok-decls.ensures.reads) (c.in_err-mark.ensures))
 
 pub returns-clause-cases : goal.returns-clause-cases
