@@ -1,0 +1,35 @@
+use Rattle.std.proofs.Common.{ℕ, ◌+◌, ◌-◌, ◌*◌, length}
+use Rattle.sc_parse.specs.Input.{input}
+use Rattle.sc_parse.proofs.Levels.{word_looseness}
+use Rattle.sc_parse.proofs.WordChains.{WordChained, Shifted}
+use Rattle.sc_parse.proofs.reader.Reader.+word.Given as goal
+
+abbrev pub decreases-word_expr : goal.decreases-word_expr
+decreases-word_expr l = 32 * (length (input l.self.now) - l.at.now) + 30
+
+abbrev pub decreases-word_operand : goal.decreases-word_operand
+decreases-word_operand l = 32 * (length (input l.self.now) - l.at.now) + 2 * word_looseness l.level + 3
+
+abbrev pub decreases-word_chain : goal.decreases-word_chain
+decreases-word_chain l = 32 * (length (input l.self.now) - l.at.now) + 2 * word_looseness l.level + 4
+
+abbrev pub decreases-word_shift : goal.decreases-word_shift
+decreases-word_shift l = 32 * (length (input l.self.now) - l.at.now) + 7
+
+abbrev pub decreases-word_unary : goal.decreases-word_unary
+decreases-word_unary l = 32 * (length (input l.self.now) - l.at.now) + 2
+
+abbrev pub decreases-word_prim : goal.decreases-word_prim
+decreases-word_prim l = 32 * (length (input l.self.now) - l.at.now) + 1
+
+abbrev pub invariant-word_chain-links : goal.invariant-word_chain-links
+invariant-word_chain-links l = WordChained l.level l.depth (input l.self) l.initial.at l.at l.links.items
+
+abbrev pub decreases-word_chain-links : goal.decreases-word_chain-links
+decreases-word_chain-links l = length (input l.self) - l.at
+
+abbrev pub invariant-word_shift-shifts : goal.invariant-word_shift-shifts
+invariant-word_shift-shifts l = Shifted l.depth (input l.self) l.initial.at l.at l.links
+
+abbrev pub decreases-word_shift-shifts : goal.decreases-word_shift-shifts
+decreases-word_shift-shifts l = length (input l.self) - l.at

@@ -1,0 +1,34 @@
+use Rattle.std.proofs.Common.{refl, sym, ◌∙◌, ap, List, [], ◌∷◌, ◌++◌, arith}
+use Rattle.std.proofs.lemmas.Grind.{common_steps}
+use Rattle.std.proofs.lemmas.Result.{err_from_is_err_and}
+use Rattle.std.specs.Option.{is_some}
+use Rattle.sc_parse.specs.Trees.{Tree, token, name, width, wire, num, expr, decl, init, stmt, meas, param, part, word_expr, word_param, bind, each, set_of, step_of}
+use Rattle.sc_parse.specs.Derives.{name_is, width_is, wire_is, num_is, decl_is, init_is, meas_is, start_numbers, start_set, setting_is, wires_is, numbers_is, done_is, empty_is, block_is}
+use Rattle.sc_parse.proofs.Forget.{fits_of}
+use Rattle.sc_parse.proofs.Sorts.{gate_sort, measuring_sort}
+use Rattle.sc_parse.proofs.Repeats.{repeats, repeats_not}
+use Rattle.sc_parse.proofs.Lists.{listed_start, listed_more, listed_keeps}
+use Rattle.sc_parse.proofs.Steps.{reads_sub, reads_nested, reads_both, reads_left, reads_right, reads_empty, fails_sub, fails_nested, fails_first, fails_second, fails_left, fails_right, takes_sub, takes_left, takes_right}
+use Rattle.sc_parse.proofs.Parts.{makes, after_left, after_right, kept_end, measuring_gate}
+use Rattle.sc_parse.proofs.reader.Reader.put.Goals as goal
+
+pub returns-in_err-place-clause-cases : goal.returns-in_err-place-clause-cases
+returns-in_err-place-clause-cases c =
+    let p = err_from_is_err_and c.from_residual.result c.from_residual.ensures.1 in
+    rw (p.1, p.2) (fails_first (c.in_err-place.ensures))
+
+pub returns-in_err-gate-clause-cases : goal.returns-in_err-gate-clause-cases
+returns-in_err-gate-clause-cases c =
+    let p = err_from_is_err_and c.from_residual-in_err-gate.result c.from_residual-in_err-gate.ensures.1 in let b = sym c.begins.ensures ∙ c.if-begins.true in
+    rw (p.1, p.2) (fails_second c.in_ok-place.ensures.takes.reads (fails_left b (c.in_err-gate.ensures)))
+
+pub returns-then-begins-clause-cases : goal.returns-then-begins-clause-cases
+returns-then-begins-clause-cases c = let b = sym c.begins.ensures ∙ c.if-begins.true in record { parts = token c.in_ok-place.ensures.it ∷ meas c.in_ok-gate.gate c.in_ok-gate.from ∷ []; reads = reads_both c.in_ok-place.ensures.takes.reads (reads_left b c.in_ok-gate.ensures); builds = c.measured-made.ensures _ refl }
+
+pub returns-in_err-value-clause-cases : goal.returns-in_err-value-clause-cases
+returns-in_err-value-clause-cases c =
+    let p = err_from_is_err_and c.from_residual-in_err-value.result c.from_residual-in_err-value.ensures.1 in let b = sym c.begins.ensures ∙ c.if-begins.false in
+    rw (p.1, p.2) (fails_second c.in_ok-place.ensures.takes.reads (fails_right b (c.in_err-value.ensures)))
+
+pub returns-clause-cases : goal.returns-clause-cases
+returns-clause-cases c = let b = sym c.begins.ensures ∙ c.if-begins.false in record { parts = token c.in_ok-place.ensures.it ∷ expr c.in_ok-value.value ∷ []; reads = reads_both c.in_ok-place.ensures.takes.reads (reads_right b c.in_ok-value.ensures); builds = c.set-made.ensures _ c.in_ok-place.ensures.is c.in_ok-place.ensures.stands }

@@ -1,0 +1,12 @@
+pub mod Terminals
+pub mod Pieces
+pub mod Form
+pub mod Rules
+pub mod Phrase
+pub mod Runs
+pub mod Reads
+pub mod Input
+pub mod Trees
+pub mod Derives
+pub mod Grammar
+pub mod Faults

@@ -1,0 +1,170 @@
+//! What marks and words mean.
+ghost use Rattle.std.specs.Prelude.{◌≡◌};
+ghost use Rattle.sc_parse.specs.Rules.{marks, word_marks};
+ghost use Rattle.sc_parse.specs.Trees.{binary_of, class_of, number_of, set_of, shift_of, step_of, unary_of, word_binary_of};
+
+use crate::expr::Level;
+use crate::word::WordLevel;
+use sc_base::Class;
+use sc_syntax::{BinOp, Mark, NumSort, SetOp, UnOp, Word, WordOp};
+
+/// The marks before an operand.
+pub const UNARY: &[Mark] = &[Mark::Minus, Mark::Plus, Mark::Bang];
+
+/// The marks of shifts.
+pub const SHIFTS: &[Mark] = &[Mark::ShiftLeft, Mark::ShiftRight];
+
+/// The marks that add or take away one.
+pub const STEPS: &[Mark] = &[Mark::PlusPlus, Mark::MinusMinus];
+
+/// The marks that compute and set.
+pub const COMPOUNDS: &[Mark] = &[
+    Mark::PlusEq,
+    Mark::MinusEq,
+    Mark::StarEq,
+    Mark::SlashEq,
+    Mark::PercentEq,
+];
+
+/// The class of wires that a word declares.
+pub fn class(word: Word) -> Option<Class>
+    ensures { result ≡ class_of word }
+{
+    match word {
+        Word::Qbit => Some(Class::Q),
+        Word::Cbit => Some(Class::C),
+        _ => None,
+    }
+}
+
+/// The kind of number that a word declares.
+pub fn number(word: Word) -> Option<NumSort>
+    ensures { result ≡ number_of word }
+{
+    match word {
+        Word::Int => Some(NumSort::Int),
+        Word::Double => Some(NumSort::Double),
+        Word::Float => Some(NumSort::Double),
+        _ => None,
+    }
+}
+
+/// What a mark before an operand means.
+pub fn unary(mark: Mark) -> Option<UnOp>
+    ensures { result ≡ unary_of mark }
+{
+    match mark {
+        Mark::Minus => Some(UnOp::Minus),
+        Mark::Plus => Some(UnOp::Plus),
+        Mark::Bang => Some(UnOp::Not),
+        _ => None,
+    }
+}
+
+/// What a mark between two operands means.
+pub fn binary(mark: Mark) -> Option<BinOp>
+    ensures { result ≡ binary_of mark }
+{
+    match mark {
+        Mark::OrOr => Some(BinOp::Or),
+        Mark::AndAnd => Some(BinOp::And),
+        Mark::EqEq => Some(BinOp::Eq),
+        Mark::NotEq => Some(BinOp::Ne),
+        Mark::Less => Some(BinOp::Lt),
+        Mark::LessEq => Some(BinOp::Le),
+        Mark::Greater => Some(BinOp::Gt),
+        Mark::GreaterEq => Some(BinOp::Ge),
+        Mark::ShiftLeft => Some(BinOp::Shl),
+        Mark::ShiftRight => Some(BinOp::Shr),
+        Mark::Plus => Some(BinOp::Add),
+        Mark::Minus => Some(BinOp::Sub),
+        Mark::Star => Some(BinOp::Mul),
+        Mark::Slash => Some(BinOp::Div),
+        Mark::Percent => Some(BinOp::Rem),
+        _ => None,
+    }
+}
+
+/// What a mark between two words means.
+pub fn word_binary(mark: Mark) -> Option<WordOp>
+    ensures { result ≡ word_binary_of mark }
+{
+    match mark {
+        Mark::Or => Some(WordOp::Or),
+        Mark::Caret => Some(WordOp::Xor),
+        Mark::And => Some(WordOp::And),
+        Mark::EqEq => Some(WordOp::Eq),
+        Mark::Less => Some(WordOp::Lt),
+        Mark::Plus => Some(WordOp::Add),
+        Mark::Minus => Some(WordOp::Sub),
+        Mark::Star => Some(WordOp::Mul),
+        _ => None,
+    }
+}
+
+/// Whether a mark shifts to the left.
+pub fn shift(mark: Mark) -> Option<bool>
+    ensures { result ≡ shift_of mark }
+{
+    match mark {
+        Mark::ShiftLeft => Some(true),
+        Mark::ShiftRight => Some(false),
+        _ => None,
+    }
+}
+
+/// How a mark sets a number by a value.
+pub fn set(mark: Mark) -> Option<SetOp>
+    ensures { result ≡ set_of mark }
+{
+    match mark {
+        Mark::Eq => Some(SetOp::Put),
+        Mark::PlusEq => Some(SetOp::Add),
+        Mark::MinusEq => Some(SetOp::Sub),
+        Mark::StarEq => Some(SetOp::Mul),
+        Mark::SlashEq => Some(SetOp::Div),
+        Mark::PercentEq => Some(SetOp::Rem),
+        _ => None,
+    }
+}
+
+/// How a mark sets a number without a value.
+pub fn step(mark: Mark) -> Option<SetOp>
+    ensures { result ≡ step_of mark }
+{
+    match mark {
+        Mark::PlusPlus => Some(SetOp::Up),
+        Mark::MinusMinus => Some(SetOp::Down),
+        _ => None,
+    }
+}
+
+/// The operators of a level.
+pub fn level_marks(level: Level) -> &'static [Mark]
+    ensures { result.now ≡ marks level }
+{
+    match level {
+        Level::Or => &[Mark::OrOr],
+        Level::And => &[Mark::AndAnd],
+        Level::Equal => &[Mark::EqEq, Mark::NotEq],
+        Level::Order => &[Mark::Less, Mark::LessEq, Mark::Greater, Mark::GreaterEq],
+        Level::Shift => &[Mark::ShiftLeft, Mark::ShiftRight],
+        Level::Sum => &[Mark::Plus, Mark::Minus],
+        Level::Product => &[Mark::Star, Mark::Slash, Mark::Percent],
+    }
+}
+
+/// The operators of a level of words.
+pub fn word_level_marks(level: WordLevel) -> &'static [Mark]
+    ensures { result.now ≡ word_marks level }
+{
+    match level {
+        WordLevel::Or => &[Mark::Or],
+        WordLevel::Xor => &[Mark::Caret],
+        WordLevel::And => &[Mark::And],
+        WordLevel::Equal => &[Mark::EqEq],
+        WordLevel::Less => &[Mark::Less],
+        WordLevel::Sum => &[Mark::Plus, Mark::Minus],
+        WordLevel::Product => &[Mark::Star],
+    }
+}
