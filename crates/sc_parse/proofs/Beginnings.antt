@@ -1,6 +1,6 @@
 -- What a phrase or a front begins with.
-use Rattle.std.proofs.Common.{◌≡◌, refl, sym, ◌∙◌, ap, subst, ℕ, Bool, true, false, not, List, [], ◌∷◌, Option, Some, None, ◌⊎◌, inl, inr}
-use Rattle.sc_parse.specs.Pieces.{Piece, kind, next, ahead}
+use Rattle.std.proofs.Common.{◌≡◌, refl, sym, ◌∙◌, subst, ℕ, true, false, List, [], ◌∷◌, Option, Some, None, ◌⊎◌, inl, inr}
+use Rattle.sc_parse.specs.Pieces.{kind, next, ahead}
 use Rattle.sc_parse.specs.Terminals.{fits}
 use Rattle.sc_parse.specs.Form.{Form, one, sub, ◌⨾◌, ◌∣◌, many, nested, unless, Symbol}
 use Rattle.sc_parse.specs.Rules.{rule}

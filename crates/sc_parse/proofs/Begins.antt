@@ -1,5 +1,5 @@
 -- Whether one of some terminals takes the next token.
-use Rattle.std.proofs.Common.{◌≡◌, refl, ap, Bool, false, ◌||◌, List, [], ◌∷◌, Option, Some, None}
+use Rattle.std.proofs.Common.{◌≡◌, refl, ap, Bool, ◌||◌, List, [], ◌∷◌, Option, Some, None}
 use Rattle.std.specs.List.{list_any}
 use Rattle.sc_parse.specs.declared.terminal.Terminal.{Terminal}
 use Rattle.sc_parse.specs.Terminals.{fits}

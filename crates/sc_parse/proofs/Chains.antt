@@ -1,10 +1,7 @@
 -- Operands with operators of one level between them, read in a loop.
-use Rattle.std.proofs.Common.{◌≡◌, refl, sym, ◌∙◌, ap, ℕ, ◌+◌, ◌≤◌, Bool, true, false, ◌||◌, List, [], ◌∷◌, ◌++◌, append-nil, subst, length, drop, Option, Some, None, arith}
-use Rattle.sc_base.specs.declared.Place.{Place}
-use Rattle.sc_syntax.specs.declared.BinOp.{BinOp}
+use Rattle.std.proofs.Common.{◌≡◌, refl, sym, ap, ℕ, ◌≤◌, Bool, true, false, ◌||◌, List, [], ◌∷◌, ◌++◌, subst, length, drop, Option, Some, None}
 use Rattle.sc_syntax.specs.declared.Expr.{Expr}
 use Rattle.sc_syntax.specs.declared.Link.{Link}
-use Rattle.sc_syntax.specs.declared.TokenSort.TheVariants as sort
 use Rattle.sc_parse.specs.declared.expr.Level.{Level}
 use Rattle.sc_parse.specs.declared.expr.Level.TheVariants.{Or, And, Equal, Order, Shift, Sum, Product}
 use Rattle.sc_parse.specs.declared.reader.Fault.{Fault}
@@ -14,7 +11,7 @@ use Rattle.sc_parse.specs.Pieces.{Piece, next}
 use Rattle.sc_parse.specs.Form.{Form, one, sub, ◌⨾◌, many}
 use Rattle.sc_parse.specs.Form as symbol
 use Rattle.sc_parse.specs.Rules.{chain_of, operand, operator, chain}
-use Rattle.sc_parse.specs.Trees.{Tree, token, expr, binary_of}
+use Rattle.sc_parse.specs.Trees.{Tree, token, expr}
 use Rattle.sc_parse.specs.Derives.{Linked, no_links, one_link, Builds, operand_is}
 use Rattle.sc_parse.specs.Runs.{begins, first}
 use Rattle.sc_parse.specs.Reads.{Reads, Fails, TakesBinary}

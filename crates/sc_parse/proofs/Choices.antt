@@ -7,7 +7,7 @@ use Rattle.sc_parse.specs.declared.reader.Fault.{Fault}
 use Rattle.sc_parse.specs.declared.reader.Fault.TheVariants.{Syntax}
 use Rattle.sc_parse.specs.declared.terminal.Terminal.{Terminal}
 use Rattle.sc_parse.specs.Pieces.{Piece, next}
-use Rattle.sc_parse.specs.Form.{Form, empty, mark, choice}
+use Rattle.sc_parse.specs.Form.{empty, mark, choice}
 use Rattle.sc_parse.specs.Trees.{Tree}
 use Rattle.sc_parse.specs.Runs.{begins}
 use Rattle.sc_parse.specs.Reads.{Takes, Fails}

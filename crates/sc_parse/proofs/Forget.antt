@@ -1,5 +1,5 @@
 -- Phrases with trees are phrases.
-use Rattle.std.proofs.Common.{◌≡◌, refl, sym, ◌∙◌, ap, ℕ, ◌+◌, true, List, [], ◌∷◌}
+use Rattle.std.proofs.Common.{◌≡◌, refl, ◌∙◌, ap, ℕ, ◌+◌, true, List, [], ◌∷◌}
 use Rattle.sc_parse.specs.declared.terminal.Terminal.{Terminal}
 use Rattle.sc_parse.specs.Terminals.{fits}
 use Rattle.sc_parse.specs.Pieces.{Piece, kind, next, ahead}

@@ -1,6 +1,6 @@
 -- Fronts and phrases of a stack of forms.
 use Rattle.std.proofs.Common.{◌≡◌, refl, ℕ, ◌+◌, List, [], ◌∷◌, ◌⊎◌, inl, inr, true}
-use Rattle.sc_parse.specs.Pieces.{Piece, kind, next, ahead}
+use Rattle.sc_parse.specs.Pieces.{kind}
 use Rattle.sc_parse.specs.Terminals.{fits}
 use Rattle.sc_parse.specs.Form.{Form, empty, one, sub, ◌⨾◌, ◌∣◌, many, nested, unless, Symbol}
 use Rattle.sc_parse.specs.Rules.{rule}

@@ -1,8 +1,6 @@
 -- Stacks that are read with one token of look-ahead.
 use Rattle.std.proofs.Common.{◌≡◌, Bool, true, false, not, ◌&&◌, ◌||◌, [], ◌∷◌, Option, Some, None, ◌⊎◌, inl, inr}
 use Rattle.std.specs.List.{list_all}
-use Rattle.sc_parse.specs.Pieces.{Piece, kind, next, ahead}
-use Rattle.sc_parse.specs.Terminals.{fits}
 use Rattle.sc_parse.specs.Form.{Form, empty, one, sub, ◌⨾◌, ◌∣◌, many, nested, unless, Symbol}
 use Rattle.sc_parse.specs.Rules.{rule}
 use Rattle.sc_parse.specs.Runs.{passes, first, starts, Stack}

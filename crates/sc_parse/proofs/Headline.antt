@@ -2,14 +2,13 @@
 use Rattle.std.proofs.Common.{◌≡◌, refl, sym, ◌∙◌, ap, append-nil, subst, ℕ, suc, ◌+◌, ◌≤◌, ◌<◌, false, List, [], ◌∷◌, ◌++◌, length, take, drop, ◌⊎◌, inl, inr, arith, length-append, length-take, length-drop}
 use Rattle.std.proofs.lemmas.List.{take-append-drop, drop_all}
 use Rattle.std.proofs.Math.Seq.{take-append_seam}
-use Rattle.sc_parse.specs.declared.terminal.Terminal.{Terminal}
 use Rattle.sc_parse.specs.Pieces.{Piece}
 use Rattle.sc_parse.specs.Rules.{source}
 use Rattle.sc_parse.specs.Phrase.{Marked, bare, Phrase, Front, all_of_it}
 use Rattle.sc_parse.specs.Runs.{Stack, accepted, stuck, deep, Runs, at_end, too_long}
 use Rattle.sc_parse.specs.Reads.{Reads, Ends}
 use Rattle.sc_parse.specs.Trees.{Tree}
-use Rattle.sc_parse.specs.Grammar.{IsShallow, IsSource, IsSyntax, IsTooNested, IsAccepted}
+use Rattle.sc_parse.specs.Grammar.{IsShallow, IsSyntax, IsTooNested, IsAccepted}
 use Rattle.sc_parse.proofs.Good.{Good, Ok-from}
 use Rattle.sc_parse.proofs.Fronts.{FrontOf, WholeOf}
 use Rattle.sc_parse.proofs.Exact.{Account, Begins, deep_front, exact}

@@ -1,8 +1,8 @@
 -- A list with commas, read in a loop.
-use Rattle.std.proofs.Common.{◌≡◌, refl, sym, ◌∙◌, ap, ℕ, ◌≤◌, true, false, List, [], ◌∷◌, ◌++◌, append_assoc, append-nil, length, drop}
+use Rattle.std.proofs.Common.{◌≡◌, sym, ◌∙◌, ap, ℕ, ◌≤◌, true, false, List, [], ◌∷◌, ◌++◌, append_assoc, append-nil, length, drop}
 use Rattle.sc_syntax.specs.declared.Mark.TheVariants as marks
 use Rattle.sc_parse.specs.Pieces.{Piece, next}
-use Rattle.sc_parse.specs.Form.{Form, many, mark, ◌⨾◌}
+use Rattle.sc_parse.specs.Form.{Form, mark, ◌⨾◌}
 use Rattle.sc_parse.specs.Rules.{list}
 use Rattle.sc_parse.specs.Trees.{Tree, token, kept, each}
 use Rattle.sc_parse.specs.Runs.{begins}

@@ -1,5 +1,5 @@
 -- The parts of phrases.
-use Rattle.std.proofs.Common.{◌≡◌, refl, sym, ◌∙◌, ap, append-nil, ℕ, true, false, List, [], ◌∷◌, ◌++◌, length, drop, Option, Some, None}
+use Rattle.std.proofs.Common.{◌≡◌, refl, sym, ◌∙◌, ap, append-nil, ℕ, true, false, List, [], ◌∷◌, ◌++◌, drop, Option, Some, None}
 use Rattle.sc_base.specs.declared.GateName.{GateName}
 use Rattle.sc_base.specs.declared.GateName.TheVariants as gate
 use Rattle.sc_syntax.specs.declared.Bind.{Bind}

@@ -1,6 +1,5 @@
 -- Places of tokens.
 use Rattle.std.proofs.Common.{◌≡◌, refl, ap, ℕ, zero, suc, ◌≤◌, ◌<◌, List, [], ◌∷◌, length, get_or, arith}
-use Rattle.sc_base.specs.declared.Place.{Place}
 use Rattle.sc_syntax.specs.declared.Token.{Token}
 use Rattle.sc_parse.specs.Grammar.{end_place, place_at}
 

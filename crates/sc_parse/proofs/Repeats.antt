@@ -1,5 +1,5 @@
 -- A repetition, read in a loop: one record for every form.
-use Rattle.std.proofs.Common.{◌≡◌, refl, sym, ℕ, ◌+◌, ◌≤◌, ◌<◌, true, false, List, [], ◌∷◌, ◌++◌, append_assoc, append-nil, length, drop, subst, arith}
+use Rattle.std.proofs.Common.{◌≡◌, ℕ, ◌≤◌, true, false, List, [], ◌++◌, append_assoc, append-nil, length, drop, arith}
 use Rattle.sc_parse.specs.declared.reader.Fault.{Fault}
 use Rattle.sc_parse.specs.Pieces.{Piece, next}
 use Rattle.sc_parse.specs.Form.{Form, many}

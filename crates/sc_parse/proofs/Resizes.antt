@@ -1,5 +1,5 @@
 -- The names `ext` and `low`.
-use Rattle.std.proofs.Common.{◌≡◌, refl, sym, ◌∙◌, ap, subst, ℕ, Bool, true, false, List, codes, if◌then◌else◌}
+use Rattle.std.proofs.Common.{◌≡◌, refl, ◌∙◌, ap, Bool, true, false, codes, if◌then◌else◌}
 use Rattle.sc_base.specs.Texts.{same}
 use Rattle.sc_syntax.specs.declared.TokenSort.{TokenSort}
 use Rattle.sc_syntax.specs.declared.TokenSort.TheVariants as sort

@@ -1,5 +1,5 @@
 -- What a token is that a terminal takes.
-use Rattle.std.proofs.Common.{◌≡◌, refl, sym, ◌∙◌, ap, ℕ, ℤ, zero, suc, Bool, true, false, List, [], ◌∷◌, Option, Some, None, nat_eq, eqb, codes, if◌then◌else◌}
+use Rattle.std.proofs.Common.{◌≡◌, refl, sym, ap, ℕ, ℤ, zero, suc, Bool, true, false, List, [], ◌∷◌, Option, Some, None, nat_eq, codes, if◌then◌else◌}
 use Rattle.std.proofs.lemmas.Bool.{eqb-true}
 use Rattle.sc_base.specs.Texts.{same}
 use Rattle.sc_base.specs.declared.Fixed.{Fixed}
@@ -12,8 +12,8 @@ use Rattle.sc_syntax.specs.declared.TokenSort.TheVariants as sort
 use Rattle.sc_syntax.specs.declared.Word.{Word}
 use Rattle.sc_syntax.specs.declared.Word.TheVariants as w
 use Rattle.sc_parse.specs.declared.terminal.Terminal.{Terminal}
-use Rattle.sc_parse.specs.declared.terminal.Terminal.TheVariants.{Word as reserved, Mark as marked, Name, Plain, Main, Ext, Low, Other, Gate, Measuring, Int, Decimal}
-use Rattle.sc_parse.specs.Terminals.{fits, kind_of, name_kind, gate_kind, takes_mark, takes_word, mark_number, word_number, is_int, is_decimal, is_gate, is_measuring, is_plain, is_ext, is_low}
+use Rattle.sc_parse.specs.declared.terminal.Terminal.TheVariants.{Main, Ext, Low, Other, Gate, Measuring}
+use Rattle.sc_parse.specs.Terminals.{kind_of, name_kind, gate_kind, takes_mark, takes_word, mark_number, word_number, is_int, is_decimal, is_gate, is_measuring, is_plain, is_ext, is_low}
 use Rattle.sc_parse.proofs.Bools.{clash}
 
 abbrev item : {X : Type 0} → ℕ → List X → Option X

@@ -1,5 +1,5 @@
 -- What the run of a whole source says of it.
-use Rattle.std.proofs.Common.{◌≡◌, refl, sym, ◌∙◌, subst, ℕ, ◌+◌, ◌≤◌, ◌<◌, Bool, true, false, ◌||◌, List, [], length, drop, Option, Some, None}
+use Rattle.std.proofs.Common.{◌≡◌, refl, subst, ℕ, ◌≤◌, ◌||◌, List, [], length, Option, Some, None}
 use Rattle.std.proofs.lemmas.List.{drop_all}
 use Rattle.sc_parse.specs.declared.reader.Fault.{Fault}
 use Rattle.sc_parse.specs.declared.reader.Fault.TheVariants.{Syntax, TooNested, Memory}

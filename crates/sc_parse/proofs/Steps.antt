@@ -1,5 +1,5 @@
 -- How what is read of a form follows from what is read of its parts.
-use Rattle.std.proofs.Common.{◌≡◌, refl, sym, ◌∙◌, ap, subst, cond, ℕ, zero, suc, ◌+◌, ◌≤◌, ◌<◌, true, false, List, [], ◌∷◌, ◌++◌, length, drop, get_or, Option, Some, None, MatchOption, arith}
+use Rattle.std.proofs.Common.{◌≡◌, refl, sym, ◌∙◌, ap, subst, ℕ, zero, suc, ◌+◌, ◌≤◌, ◌<◌, true, false, List, [], ◌∷◌, ◌++◌, length, drop, get_or, Option, Some, None, MatchOption, arith}
 use Rattle.sc_syntax.specs.declared.Token.{Token}
 use Rattle.sc_parse.specs.declared.terminal.Terminal.{Terminal}
 use Rattle.sc_parse.specs.declared.reader.Fault.{Fault}
@@ -8,11 +8,11 @@ use Rattle.sc_parse.specs.Terminals.{fits}
 use Rattle.sc_parse.specs.Pieces.{Piece, kind, next, piece, pieces}
 use Rattle.sc_parse.specs.Form.{Form, empty, one, sub, ◌⨾◌, ◌∣◌, many, nested, unless, Symbol}
 use Rattle.sc_parse.specs.Rules.{rule}
-use Rattle.sc_parse.specs.Runs.{begins, first, passes, Outcome, deep, Runs, takes, too_deep, other, skips, splits, goes_left, goes_right, stays, leaves, descends, unfolds, waits}
+use Rattle.sc_parse.specs.Runs.{begins, first, Outcome, deep, Runs, takes, too_deep, other, skips, splits, goes_left, goes_right, stays, leaves, descends, unfolds, waits}
 use Rattle.sc_parse.specs.Derives.{Derives, Builds, nothing, one_token, both, left, right, no_more, more, deeper, not_next, built}
 use Rattle.sc_parse.specs.Trees.{Tree, token}
 use Rattle.sc_parse.specs.Reads.{Reads, Takes, Ends, Fails, FailsBy}
-use Rattle.sc_parse.proofs.Bools.{clash, or_first, or_second, both_false}
+use Rattle.sc_parse.proofs.Bools.{or_first, or_second, both_false}
 
 -- a form that is read
 

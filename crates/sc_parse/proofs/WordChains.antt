@@ -1,7 +1,5 @@
 -- Words with operators of one level between them, and shifts, read in a loop.
-use Rattle.std.proofs.Common.{◌≡◌, refl, sym, ◌∙◌, ap, ℕ, ◌+◌, ◌≤◌, Bool, true, false, ◌||◌, List, [], ◌∷◌, ◌++◌, append-nil, subst, length, drop, Option, Some, None, arith}
-use Rattle.sc_base.specs.declared.Place.{Place}
-use Rattle.sc_syntax.specs.declared.WordOp.{WordOp}
+use Rattle.std.proofs.Common.{◌≡◌, refl, sym, ◌∙◌, ap, ℕ, ◌≤◌, Bool, true, false, List, [], ◌∷◌, ◌++◌, subst, length, drop, Option, Some}
 use Rattle.sc_syntax.specs.declared.WordExpr.{WordExpr}
 use Rattle.sc_syntax.specs.declared.WordLink.{WordLink}
 use Rattle.sc_syntax.specs.declared.TokenSort.TheVariants as sort
@@ -16,10 +14,10 @@ use Rattle.sc_parse.specs.Pieces.{Piece, kind, next}
 use Rattle.sc_parse.specs.Form.{Form, one, sub, choice, ◌⨾◌, ◌∣◌, many}
 use Rattle.sc_parse.specs.Form as symbol
 use Rattle.sc_parse.specs.Rules.{word_chain_of, word_operand, word_operator, word_chain, shift_marks}
-use Rattle.sc_parse.specs.Trees.{Tree, token, word_expr, width, shift_of}
+use Rattle.sc_parse.specs.Trees.{Tree, token, word_expr, width}
 use Rattle.sc_parse.specs.Derives.{WordLinked, ShiftLinked, no_links, one_link, Builds, word_operand_is, word_sum_is, left, right, one_token, Derives}
 use Rattle.sc_parse.specs.Runs.{begins}
-use Rattle.sc_parse.specs.Reads.{Reads, Fails, TakesWordBinary, TakesShift, Takes}
+use Rattle.sc_parse.specs.Reads.{Reads, Fails, TakesWordBinary, TakesShift}
 use Rattle.sc_parse.specs.Terminals.{is_ext, is_low}
 use Rattle.sc_parse.proofs.Bools.{clash}
 use Rattle.sc_parse.proofs.Sorts.{ext_sort, low_sort}

@@ -1,5 +1,5 @@
 -- Phrases with their trees.
-use Rattle.std.specs.Prelude.{◌≡◌, ◌≢◌, ℕ, ℤ, pos, Bool, true, false, drop, List, [], ◌∷◌, ◌++◌, Option, Some, None}
+use Rattle.std.specs.Prelude.{◌≡◌, ◌≢◌, ℤ, pos, true, false, List, [], ◌∷◌, ◌++◌, Option, Some, None}
 use Rattle.std.specs.declared.alloc.Global.{Global}
 use Rattle.std.specs.declared.boxed.Box.{Box}
 use Rattle.std.specs.declared.vec.Vec.{Vec}
@@ -31,10 +31,7 @@ use Rattle.sc_syntax.specs.declared.Decl.{Decl}
 use Rattle.sc_syntax.specs.declared.Init.{Init}
 use Rattle.sc_syntax.specs.declared.Operand.{Operand}
 use Rattle.sc_syntax.specs.declared.Callee.TheVariants as callee
-use Rattle.sc_syntax.specs.declared.Param.{Param}
-use Rattle.sc_syntax.specs.declared.Sort.{Sort}
 use Rattle.sc_syntax.specs.declared.Sort.TheVariants as psort
-use Rattle.sc_syntax.specs.declared.Part.{Part}
 use Rattle.sc_syntax.specs.declared.Part.TheVariants as part_of
 use Rattle.sc_syntax.specs.declared.Module.{Module as ModuleTree}
 use Rattle.sc_syntax.specs.declared.WordFn.{WordFn}

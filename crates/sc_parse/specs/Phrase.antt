@@ -1,5 +1,5 @@
 -- What the forms mean: phrases and fronts over tokens that are marked with their nesting.
-use Rattle.std.specs.Prelude.{◌≡◌, ℕ, ◌+◌, Bool, true, false, List, [], ◌∷◌}
+use Rattle.std.specs.Prelude.{◌≡◌, ℕ, ◌+◌, true, false, List, [], ◌∷◌}
 use Rattle.sc_parse.specs.Form.{Form, empty, one, sub, ◌⨾◌, ◌∣◌, many, nested, unless, Symbol}
 use Rattle.sc_parse.specs.Rules.{rule}
 use Rattle.sc_parse.specs.declared.terminal.Terminal.{Terminal}

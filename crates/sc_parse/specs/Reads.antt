@@ -11,7 +11,6 @@ use Rattle.sc_parse.specs.declared.expr.Level.{Level}
 use Rattle.sc_parse.specs.declared.word.WordLevel.{WordLevel}
 use Rattle.sc_parse.specs.declared.reader.Fault.{Fault}
 use Rattle.sc_parse.specs.declared.reader.Fault.TheVariants.{Syntax, TooNested, Memory}
-use Rattle.sc_parse.specs.declared.terminal.Terminal.{Terminal}
 use Rattle.sc_parse.specs.Pieces.{Piece}
 use Rattle.sc_parse.specs.Form.{Form, choice, Symbol}
 use Rattle.sc_parse.specs.Trees.{Tree, token, kept, binary_of, word_binary_of, level_of, word_level_of, shift_of}

@@ -1,5 +1,5 @@
 -- What the parts of a phrase stand for.
-use Rattle.std.specs.Prelude.{ℕ, ℤ, pos, Bool, true, false, List, [], ◌∷◌, ◌++◌, Option, Some, None}
+use Rattle.std.specs.Prelude.{Bool, true, false, List, [], ◌∷◌, Option, Some, None}
 use Rattle.sc_base.specs.declared.Class.{Class}
 use Rattle.sc_base.specs.declared.Class.TheVariants as class
 use Rattle.sc_base.specs.declared.GateName.{GateName}
@@ -8,8 +8,6 @@ use Rattle.sc_syntax.specs.declared.Mark.{Mark}
 use Rattle.sc_syntax.specs.declared.Mark.TheVariants as m
 use Rattle.sc_syntax.specs.declared.Word.{Word}
 use Rattle.sc_syntax.specs.declared.Word.TheVariants as w
-use Rattle.sc_syntax.specs.declared.TokenSort.{TokenSort}
-use Rattle.sc_syntax.specs.declared.TokenSort.TheVariants as sort
 use Rattle.sc_syntax.specs.declared.Name.{Name}
 use Rattle.sc_syntax.specs.declared.NumSort.{NumSort}
 use Rattle.sc_syntax.specs.declared.NumSort.TheVariants as number

@@ -159,3 +159,6 @@ impl Reader<'_> {
         Ok(Source { parts })
     }
 }
+
+#[cfg(test)]
+mod tests;

@@ -1,6 +1,6 @@
-use Rattle.std.proofs.Common.{◌∙◌, ap, sym, List, [], ◌∷◌}
+use Rattle.std.proofs.Common.{◌∙◌, ap, sym, [], ◌∷◌}
 use Rattle.sc_syntax.specs.declared.Stmt.{Stmt}
-use Rattle.sc_parse.specs.Trees.{Tree, expr, stmt}
+use Rattle.sc_parse.specs.Trees.{expr, stmt}
 use Rattle.sc_parse.specs.Derives.{while_is}
 use Rattle.sc_parse.proofs.make_stmts.while_loop.Goals as goal
 

@@ -1,4 +1,4 @@
-use Rattle.std.proofs.Common.{ℕ, ◌+◌, ◌-◌, ◌*◌, length}
+use Rattle.std.proofs.Common.{◌+◌, ◌-◌, ◌*◌, length}
 use Rattle.sc_parse.specs.Form.{sub}
 use Rattle.sc_parse.specs.Form as symbol
 use Rattle.sc_parse.specs.Input.{input}

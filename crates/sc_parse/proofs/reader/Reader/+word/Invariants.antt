@@ -1,4 +1,4 @@
-use Rattle.std.proofs.Common.{ℕ, ◌+◌, ◌-◌, ◌*◌, length}
+use Rattle.std.proofs.Common.{◌+◌, ◌-◌, ◌*◌, length}
 use Rattle.sc_parse.specs.Input.{input}
 use Rattle.sc_parse.proofs.Levels.{word_looseness}
 use Rattle.sc_parse.proofs.WordChains.{WordChained, Shifted}
