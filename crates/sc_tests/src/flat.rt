@@ -99,18 +99,41 @@ fn other_sources_are_unbuilt(rt: HostRuntime) -> Result<(), Fail> {
     Ok(())
 }
 
-/// Sources whose tokens have a fault, with the fault's line.
-const MISTAKEN: [(&str, &str); 4] = [
+/// Sources whose tokens have a fault or leave the grammar, with the fault's line.
+const MISTAKEN: [(&str, &str); 6] = [
     ("int main() { /* x", "scaff: 1:14: OpenComment\n"),
     ("int main() { int x = 12ab; }\n", "scaff: 1:22: BadNumber\n"),
     ("int main() { }\n  @\n", "scaff: 2:3: BadByte\n"),
     ("#define N (1\nint main() { }\n", "scaff: 1:1: BadDefine\n"),
+    ("int main() { H(; }\n", "scaff: 1:16: Syntax\n"),
+    ("int main() { H(; } @\n", "scaff: 1:20: BadByte\n"),
 ];
 
 #[test]
-fn the_first_fault_of_the_tokens_is_told(rt: HostRuntime) -> Result<(), Fail> {
+fn the_first_fault_of_a_source_is_told(rt: HostRuntime) -> Result<(), Fail> {
     for (source, line) in MISTAKEN {
         shows(&rt, rt.alloc(), source.as_bytes(), b"", line.as_bytes(), 1)?;
+    }
+    Ok(())
+}
+
+#[test]
+fn parentheses_nest_to_128(rt: HostRuntime) -> Result<(), Fail> {
+    let alloc = rt.alloc();
+    for (count, line, code) in [
+        (126u32, "scaff: Unbuilt\n", 1),
+        (127, "scaff: 1:149: TooNested\n", 5),
+    ] {
+        let mut text = String::from_str(alloc, "int main() { int x = ")?;
+        for _ in 0..count {
+            text.push_str("(")?;
+        }
+        text.push_str("0")?;
+        for _ in 0..count {
+            text.push_str(")")?;
+        }
+        text.push_str("; }")?;
+        shows(&rt, alloc, text.as_bytes(), b"", line.as_bytes(), code)?;
     }
     Ok(())
 }

@@ -1,14 +1,17 @@
 -- What a request is answered.
-use Rattle.std.specs.Prelude.{◌≡◌, ℕ, ◌<◌, ◌≤◌, ◌==◌, ◌&&◌, not, Bool, true, List, [], ◌∷◌, Option, None, Some, codes, length, if◌then◌else◌}
+use Rattle.std.specs.Prelude.{◌≡◌, ℕ, ◌<◌, ◌≤◌, ◌⊎◌, ◌==◌, ◌&&◌, not, Bool, true, List, [], ◌∷◌, Option, None, Some, codes, length, if◌then◌else◌}
 use Rattle.std.specs.Str.{bytes_eq}
 use Rattle.sc_gate.specs.Lines.{flat_text}
 use Rattle.sc_syntax.specs.Lexing.{IsLexed, HasFault}
 use Rattle.sc_syntax.specs.declared.LexFault.{LexFault}
 use Rattle.sc_syntax.specs.declared.Token.{Token}
-use Rattle.sc_top.specs.Fault.{token_fault}
+use Rattle.sc_parse.specs.Grammar.{IsAccepted, IsFault as LeavesGrammar}
+use Rattle.sc_parse.specs.Pieces.{pieces}
+use Rattle.sc_parse.specs.declared.source.ParseFault.{ParseFault}
+use Rattle.sc_top.specs.Fault.{token_fault, grammar_fault}
 use Rattle.sc_top.specs.First.{Made, IsFirstForm}
 use Rattle.sc_top.specs.declared.fault.Fault.{Fault}
-use Rattle.sc_top.specs.declared.fault.Fault.TheVariants.{Usage, ReadFault, SourceTooLarge, Tokens, Unbuilt, Memory, WriteFault}
+use Rattle.sc_top.specs.declared.fault.Fault.TheVariants.{Usage, ReadFault, SourceTooLarge, At, Unbuilt, Memory, WriteFault}
 use Rattle.sc_top.specs.declared.request.Request.{Request}
 use Rattle.sc_top.specs.declared.request.Request.TheVariants.{Flat}
 
@@ -48,19 +51,36 @@ pub record Asks (held : List ℕ → Option (List ℕ)) (words : List (List ℕ)
 abbrev pub IsTooLarge : List ℕ → Type 0
 IsTooLarge text = most_bytes < length text
 
--- the text is a source whose tokens have this fault
-pub record IsMistaken (fault : Fault) (text : List ℕ) : Type 0 where
+-- the tokens of the text have this fault
+pub record IsMisread (fault : Fault) (text : List ℕ) : Type 0 where
   pub within : length text ≤ most_bytes
   pub mistake : LexFault
   pub has : HasFault text mistake
   pub is : fault ≡ token_fault mistake
 
--- the text is a source that has tokens, but not of the first form
-pub record IsUnbuilt (text : List ℕ) : Type 0 where
+-- the text has tokens, but not of the first form
+pub record IsOther (text : List ℕ) (tokens : List Token) : Type 0 where
   pub within : length text ≤ most_bytes
-  pub tokens : List Token
   pub lexed : IsLexed text tokens
   pub other : (made : Made) → IsFirstForm text tokens made → ⊥
+
+-- the tokens of the text are not of the first form, and leave the grammar with this fault
+pub record IsMisparsed (fault : Fault) (text : List ℕ) : Type 0 where
+  pub tokens : List Token
+  pub other : IsOther text tokens
+  pub mistake : ParseFault
+  pub leaves : LeavesGrammar text tokens mistake
+  pub is : fault ≡ grammar_fault mistake
+
+-- the text has this fault in its tokens, or else in its grammar
+abbrev pub IsMistaken : Fault → List ℕ → Type 0
+IsMistaken fault text = IsMisread fault text ⊎ IsMisparsed fault text
+
+-- the text is in the grammar, but not of the first form
+pub record IsUnbuilt (text : List ℕ) : Type 0 where
+  pub tokens : List Token
+  pub other : IsOther text tokens
+  pub accepted : IsAccepted (pieces text tokens)
 
 -- the text is a source of the first form, and its flat text was written
 pub record IsWritten (Written : List ℕ → Type 0) (text : List ℕ) : Type 0 where
@@ -75,7 +95,7 @@ abbrev pub Cause : Type 0 → ((List ℕ → Type 0) → Type 0) → Type 0 → 
 Cause NoRequest Text ShelfRose OutRose Usage = NoRequest
 Cause NoRequest Text ShelfRose OutRose ReadFault = ShelfRose
 Cause NoRequest Text ShelfRose OutRose SourceTooLarge = Text IsTooLarge
-Cause NoRequest Text ShelfRose OutRose (Tokens fault place) = Text (IsMistaken (Tokens fault place))
+Cause NoRequest Text ShelfRose OutRose (At m place) = Text (IsMistaken (At m place))
 Cause NoRequest Text ShelfRose OutRose Unbuilt = Text IsUnbuilt
 Cause NoRequest Text ShelfRose OutRose Memory = Unit {0}
 Cause NoRequest Text ShelfRose OutRose WriteFault = OutRose

@@ -1,10 +1,11 @@
 //! Why a request is refused.
 ghost use Rattle.std.specs.Prelude.{◌≡◌, ◌≤◌, ◌++◌, length, ◌+◌};
-ghost use Rattle.sc_top.specs.Fault.{status_of, fault_line, fault_name, place_text, token_fault};
+ghost use Rattle.sc_top.specs.Fault.{status_of, fault_line, fault_name, is_limit, mistake_name, place_text, token_fault, grammar_fault};
 
 use crate::status::Status;
 use sc_base::Place;
 use sc_gate::Line;
+use sc_parse::ParseFault;
 use sc_syntax::LexFault;
 
 #[derive(Clone, Copy, Debug, PartialEq, Eq)]
@@ -12,21 +13,23 @@ pub(crate) enum Fault {
     Usage,
     ReadFault,
     SourceTooLarge,
-    /// A fault of the source's tokens, at its place.
-    Tokens(TokenFault, Place),
+    /// What is wrong with the source, and where.
+    At(Mistake, Place),
     Unbuilt,
     Memory,
     WriteFault,
 }
 
-/// What is wrong with a source's tokens.
+/// What is wrong with a source at a place.
 #[derive(Clone, Copy, Debug, PartialEq, Eq)]
-pub(crate) enum TokenFault {
+pub(crate) enum Mistake {
     BadByte,
     OpenComment,
     BadNumber,
     BadDefine,
     TooManyTokens,
+    Syntax,
+    TooNested,
 }
 
 /// The fault of a request over a source whose tokens have this fault.
@@ -34,12 +37,50 @@ pub(crate) fn lexing_fault(fault: LexFault) -> Fault
     ensures { result ≡ token_fault fault }
 {
     match fault {
-        LexFault::BadByte(place) => Fault::Tokens(TokenFault::BadByte, place),
-        LexFault::OpenComment(place) => Fault::Tokens(TokenFault::OpenComment, place),
-        LexFault::BadNumber(place) => Fault::Tokens(TokenFault::BadNumber, place),
-        LexFault::BadDefine(place) => Fault::Tokens(TokenFault::BadDefine, place),
-        LexFault::TooManyTokens(place) => Fault::Tokens(TokenFault::TooManyTokens, place),
+        LexFault::BadByte(place) => Fault::At(Mistake::BadByte, place),
+        LexFault::OpenComment(place) => Fault::At(Mistake::OpenComment, place),
+        LexFault::BadNumber(place) => Fault::At(Mistake::BadNumber, place),
+        LexFault::BadDefine(place) => Fault::At(Mistake::BadDefine, place),
+        LexFault::TooManyTokens(place) => Fault::At(Mistake::TooManyTokens, place),
         LexFault::Memory => Fault::Memory,
+    }
+}
+
+/// The fault of a request over a source whose tokens leave the grammar so.
+pub(crate) fn parsing_fault(fault: ParseFault) -> Fault
+    ensures { result ≡ grammar_fault fault }
+{
+    match fault {
+        ParseFault::Syntax(place) => Fault::At(Mistake::Syntax, place),
+        ParseFault::TooNested(place) => Fault::At(Mistake::TooNested, place),
+        ParseFault::Memory => Fault::Memory,
+    }
+}
+
+impl Mistake {
+    /// Whether a limit is passed.
+    fn is_limit(&self) -> bool
+        ensures { result ≡ is_limit self.now }
+    {
+        match self {
+            Mistake::TooManyTokens | Mistake::TooNested => true,
+            _ => false,
+        }
+    }
+
+    fn name(&self) -> &'static [u8]
+        ensures name { result.now ≡ mistake_name self.now }
+        ensures short { length result.now ≤ 14 }
+    {
+        match self {
+            Mistake::BadByte => b"BadByte",
+            Mistake::OpenComment => b"OpenComment",
+            Mistake::BadNumber => b"BadNumber",
+            Mistake::BadDefine => b"BadDefine",
+            Mistake::TooManyTokens => b"TooManyTokens",
+            Mistake::Syntax => b"Syntax",
+            Mistake::TooNested => b"TooNested",
+        }
     }
 }
 
@@ -50,8 +91,15 @@ impl Fault {
         match self {
             Fault::Usage => Status::Usage,
             Fault::ReadFault => Status::ReadFailed,
-            Fault::SourceTooLarge | Fault::Tokens(TokenFault::TooManyTokens, _) => Status::Limit,
-            Fault::Tokens(_, _) | Fault::Unbuilt => Status::Refused,
+            Fault::SourceTooLarge => Status::Limit,
+            Fault::At(mistake, _) => {
+                if mistake.is_limit() {
+                    Status::Limit
+                } else {
+                    Status::Refused
+                }
+            }
+            Fault::Unbuilt => Status::Refused,
             Fault::Memory => Status::Memory,
             Fault::WriteFault => Status::WriteFailed,
         }
@@ -65,11 +113,7 @@ impl Fault {
             Fault::Usage => b"Usage",
             Fault::ReadFault => b"ReadFault",
             Fault::SourceTooLarge => b"SourceTooLarge",
-            Fault::Tokens(TokenFault::BadByte, _) => b"BadByte",
-            Fault::Tokens(TokenFault::OpenComment, _) => b"OpenComment",
-            Fault::Tokens(TokenFault::BadNumber, _) => b"BadNumber",
-            Fault::Tokens(TokenFault::BadDefine, _) => b"BadDefine",
-            Fault::Tokens(TokenFault::TooManyTokens, _) => b"TooManyTokens",
+            Fault::At(mistake, _) => mistake.name(),
             Fault::Unbuilt => b"Unbuilt",
             Fault::Memory => b"Memory",
             Fault::WriteFault => b"WriteFault",
@@ -82,7 +126,7 @@ impl Fault {
     {
         let mut line = Line::new();
         line.push(b"scaff: ");
-        if let Fault::Tokens(_, place) = self {
+        if let Fault::At(_, place) = self {
             push_place(&mut line, *place);
         }
         line.push(self.name());

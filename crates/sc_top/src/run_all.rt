@@ -4,19 +4,21 @@ ghost use Rattle.std.specs.Rc.{rc_str_bytes};
 ghost use Rattle.sc_base.specs.Causes.{Rose, Stood, HasCause};
 ghost use Rattle.sc_base.specs.Output.{Wrote, WrotePrefix};
 ghost use Rattle.sc_gate.specs.Lines.{flat_text};
-ghost use Rattle.sc_top.specs.Answers.{request, most_bytes, IsFirstSource, Asks, IsWritten, Cause};
+ghost use Rattle.sc_syntax.specs.TokenLists.{AreRead};
+ghost use Rattle.sc_top.specs.Answers.{request, most_bytes, IsFirstSource, IsOther, Asks, IsWritten, Cause};
 ghost use Rattle.sc_top.specs.Fault.{status_of, fault_line, Tells};
 ghost use Rattle.sc_top.specs.First.{Made};
 ghost use Rattle.sc_top.specs.declared.fault.Fault.{Fault as AnyFault};
 
-use crate::fault::{Fault, lexing_fault};
+use crate::fault::{Fault, lexing_fault, parsing_fault};
 use crate::form::first_form;
 use crate::maker::FormFault;
 use crate::request::{WordsFault, read_words};
 use crate::status::Status;
 use sc_base::{List, ReadAllFault, Shelf, Sink, Text, WriteFault, read_all, write_all};
 use sc_gate::{Gate, write_flat};
-use sc_syntax::lex;
+use sc_parse::parse;
+use sc_syntax::{Tokens, lex};
 use std::alloc::Global;
 use std::rc::RcStr;
 
@@ -69,8 +71,20 @@ fn circuit(alloc: Global, source: &[u8]) -> Result<(u32, List<Gate>), Fault>
     };
     match first_form(alloc, source, tokens.as_slice()) {
         Ok(circuit) => Ok(circuit),
-        Err(FormFault::Unbuilt) => Err(Fault::Unbuilt),
+        Err(FormFault::Unbuilt) => Err(refusal(alloc, source, &tokens)),
         Err(FormFault::Memory) => Err(Fault::Memory),
+    }
+}
+
+/// Why a source that is not of the first form is refused.
+fn refusal(alloc: Global, source: &[u8], tokens: &Tokens) -> Fault
+    requires read { AreRead source.now tokens.now }
+    requires other { IsOther source.now tokens.now }
+    ensures { Cause ⊥ (λ Says. Says source.now) ⊥ ⊥ result }
+{
+    match parse(alloc, source, tokens) {
+        Ok(_) => Fault::Unbuilt,
+        Err(fault) => parsing_fault(fault),
     }
 }
 
@@ -121,9 +135,10 @@ fn tell<E: Sink>(err: &mut E, line: &[u8])
 ///
 /// `flat FILE` writes the flat text of the source under FILE to `out`, and ends it. The refusals, in this order:
 /// `Usage` where the words are anything else; `ReadFailed` where the shelf fails; `Limit` where the source has more
-/// than 16,777,216 bytes; `Refused` or `Limit` where its tokens have a fault, the first one; `Refused` where it is not
-/// of the first form. `Memory` comes where no memory is found, before the first byte of output. After a refusal `out` is unchanged. After `WriteFailed`, where the sink
-/// fails, `out` has a prefix of the text and is not ended. A refusal writes one line to `err` and ends it.
+/// than 16,777,216 bytes; `Refused` or `Limit` where its tokens have a fault, the first one, or else where they leave
+/// the grammar; `Refused` where it is not of the first form. `Memory` comes where no memory is found, before the first
+/// byte of output. After a refusal `out` is unchanged. After `WriteFailed`, where the sink fails, `out` has a prefix of
+/// the text and is not ended. A refusal writes one line to `err` and ends it.
 pub fn run<F: Shelf, O: Sink, E: Sink>(
     alloc: Global,
     words: &[RcStr],
