@@ -12,7 +12,7 @@ use Rattle.sc_parse.specs.Derives.{Builds, name_is, main_name_is, width_is, wire
 use Rattle.sc_parse.proofs.FormedTrees.{IsFormedTree, AreFormedTrees, weight, weights, IsMade, AreHeld, kept_held, formed_front, formed_rest, weights-append, list_formed, option_formed, binds_weigh}
 use Rattle.sc_parse.proofs.FormedParts.{Known}
 use Rattle.sc_parse.proofs.FormedChains.{chain_formed, word_chain_formed, word_chain_light, shifts_are_formed, shift_weighs}
-use Rattle.sc_parse.proofs.FormedSteps.{name_fits, int_fits, decimal_fits, set_value, step_value, measuring, measured_formed, for_formed}
+use Rattle.sc_parse.proofs.FormedSteps.{name_fits, int_fits, decimal_fits, one_fits, set_value, step_value, measuring, measured_formed, for_formed}
 
 module_formed : (x : ModuleTree) (n : ℕ) → AreHeld (name x.name ∷ (each param x.params ++ each stmt x.body)) n → n ≤ max_items → IsFormedModule x
 module_formed x n h small =
@@ -103,7 +103,7 @@ builds_formed (shift_is linked some) k all small =
     let one = shift_weighs linked some in record { formed = (all.0, shifts_are_formed linked all.1 (omega arith)); light = omega arith }
 builds_formed word_or_is k all small = record { formed = all.0; light = omega arith }
 builds_formed word_pick_is k all small = record { formed = (all.0, all.1.1.0, all.1.1.1.1.0); light = omega arith }
-builds_formed single_is k all small = record { formed = (all.0, tt); light = omega arith }
+builds_formed single_is k all small = record { formed = (all.0, one_fits); light = omega arith }
 builds_formed (word_param_is {vs = vs} e) k all small = let h = kept_held vs e all in let l = h.light in record { formed = (h.formed.0, h.formed.1.0); light = omega arith }
 builds_formed (bind_is {vs = vs} e) k all small = let h = kept_held vs e all in let l = h.light in record { formed = (h.formed.0, h.formed.1.0); light = omega arith }
 builds_formed (words_is {vs = vs} {f = f} e) k all small = let h = kept_held vs e all in let l = h.light in record { formed = words_formed f (weights vs) h small; light = omega arith }

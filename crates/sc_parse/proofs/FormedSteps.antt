@@ -1,5 +1,6 @@
 -- What single steps of building a tree need: texts and numbers of tokens, marks that set, and gates that measure.
-use Rattle.std.proofs.Common.{◌≡◌, refl, sym, ap, subst, ℕ, ℤ, pos, ◌≤ℤ◌, ◌≤◌, List, [], ◌∷◌, ◌++◌, Option, Some, None}
+use Rattle.std.proofs.Common.{◌≡◌, refl, sym, ap, subst, ℕ, ℤ, pos, ◌≤ℤ◌, ◌≤◌, List, [], ◌∷◌, ◌++◌, Option, Some, None, arith}
+use Rattle.std.proofs.lemmas.Int.{ints}
 use Rattle.std.specs.declared.alloc.Global.{Global}
 use Rattle.std.specs.declared.boxed.Box.{Box}
 use Rattle.sc_base.specs.declared.Fixed.{Fixed}
@@ -38,6 +39,10 @@ int_fits s text n e h = subst (λ k. FitsText k text) e h
 
 pub decimal_fits : (s : TokenSort) (text : List ℕ) (d : Fixed) → s ≡ sort.Decimal d → FitsText s text → pos 0 ≤ℤ d.0
 decimal_fits s text d e h = subst (λ k. FitsText k text) e h
+
+-- a width that is not written
+pub one_fits : pos 0 ≤ℤ pos 1
+one_fits = omega (arith, ints)
 
 -- ---- settings
 

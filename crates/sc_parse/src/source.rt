@@ -1,5 +1,6 @@
 //! Sources.
 ghost use Rattle.std.specs.Prelude.{◌≡◌, ℕ, ◌+◌, ◌<◌, ◌≤◌, ◌++◌, ◌∷◌, List, [], length, IfOk, IfErr, OnOk, MatchResult};
+ghost use Rattle.sc_syntax.specs.Formed.{IsFormedSource};
 ghost use Rattle.sc_syntax.specs.TokenLists.{AreRead};
 ghost use Rattle.sc_parse.specs.Grammar.{HasOneNesting, IsAccepted, IsFault, IsTreeOf, end_place, place_at};
 ghost use Rattle.sc_parse.specs.Pieces.{pieces};
@@ -31,6 +32,7 @@ pub fn parse(alloc: Global, source: &[u8], tokens: &Tokens) -> Result<Source, Pa
     requires size { length source.now ≤ 16777216 }
     ensures accepted { OnOk result (IsAccepted (pieces source.now tokens.now)) }
     ensures derives { IfOk result (IsTreeOf source.now tokens.now) }
+    ensures formed { IfOk result IsFormedSource }
     ensures refused { IfErr result (IsFault source.now tokens.now) }
     ensures one_nesting { HasOneNesting }
 {
