@@ -1,5 +1,5 @@
 -- Chains of formed operands, and shifts by formed widths.
-use Rattle.std.proofs.Common.{◌≡◌, ◌≢◌, refl, sym, ◌∙◌, ap, subst, ℕ, suc, ◌+◌, ◌≤◌, List, [], ◌∷◌, length, map, Option, Some, None, arith}
+use Rattle.std.proofs.Common.{◌≡◌, ◌≢◌, refl, sym, ◌∙◌, ap, ℕ, ◌+◌, ◌≤◌, List, [], ◌∷◌, length, map, arith}
 use Rattle.std.proofs.lemmas.List.Elements.{All-nil, All-cons}
 use Rattle.std.proofs.lemmas.List.Sums.{sum_by-cons}
 use Rattle.std.specs.List.{All, sum_by}
@@ -22,15 +22,15 @@ use Rattle.sc_syntax.specs.Count.{words_in, words_in_links, count_words}
 use Rattle.sc_syntax.specs.Formed.{IsFormedNode, IsFormedExpr, IsFormedLink}
 use Rattle.sc_syntax.specs.FormedWords.{max_items, AreFormed, IsFormedShift, IsFormedWordExpr, IsFormedWordLink, IsFormedWordNode}
 use Rattle.sc_syntax.specs.Levels.{level, word_level, IsOneLevel}
-use Rattle.sc_syntax.proofs.FormedRows.{IsFormedChain, chain_is_formed, IsFormedWordChain, word_chain_is_formed}
+use Rattle.sc_syntax.proofs.FormedRows.{chain_is_formed, word_chain_is_formed}
 use Rattle.sc_syntax.proofs.Rows.{word_links_of, over_word_links}
 use Rattle.sc_parse.specs.declared.expr.Level.{Level}
 use Rattle.sc_parse.specs.declared.expr.Level.TheVariants as levels
 use Rattle.sc_parse.specs.declared.word.WordLevel.{WordLevel}
 use Rattle.sc_parse.specs.declared.word.WordLevel.TheVariants as wlevels
-use Rattle.sc_parse.specs.Trees.{Tree, token, expr, word_expr, level_of, word_level_of}
+use Rattle.sc_parse.specs.Trees.{Tree, level_of, word_level_of}
 use Rattle.sc_parse.specs.Derives.{Linked, WordLinked, ShiftLinked, no_links, one_link}
-use Rattle.sc_parse.proofs.FormedTrees.{AreFormedTrees, weight, weights, weight_some}
+use Rattle.sc_parse.proofs.FormedTrees.{AreFormedTrees, weights}
 
 -- ---- operators of one level
 

@@ -1,26 +1,20 @@
 -- What parts of a phrase are beside their trees: names are names, and what starts or advances a `for` sets something.
-use Rattle.std.proofs.Common.{◌≡◌, refl, ℕ, true, List, [], ◌∷◌, ◌++◌, Option, Some, None}
-use Rattle.std.specs.declared.alloc.Global.{Global}
-use Rattle.std.specs.declared.boxed.Box.{Box}
-use Rattle.sc_base.specs.declared.GateName.{GateName}
-use Rattle.sc_base.specs.declared.GateName.TheVariants as gate
+use Rattle.std.proofs.Common.{◌≡◌, List, [], ◌∷◌}
 use Rattle.sc_syntax.specs.declared.Expr.{Expr}
 use Rattle.sc_syntax.specs.declared.Stmt.{Stmt}
-use Rattle.sc_syntax.specs.declared.TokenSort.{TokenSort}
 use Rattle.sc_syntax.specs.declared.TokenSort.TheVariants as sort
 use Rattle.sc_syntax.specs.Formed.{IsSetting}
 use Rattle.sc_parse.specs.declared.expr.Level.{Level}
 use Rattle.sc_parse.specs.declared.expr.Level.TheVariants as level
 use Rattle.sc_parse.specs.declared.word.WordLevel.{WordLevel}
 use Rattle.sc_parse.specs.declared.word.WordLevel.TheVariants as wlevel
-use Rattle.sc_parse.specs.Terminals.{kind_of, is_name, is_main}
 use Rattle.sc_parse.specs.Pieces.{Piece}
-use Rattle.sc_parse.specs.Form.{Form, one, sub, ◌⨾◌, ◌∣◌, many, nested, mark, optional, Symbol}
+use Rattle.sc_parse.specs.Form.{sub, ◌⨾◌, mark, optional, Symbol}
 use Rattle.sc_parse.specs.Form as symbol
 use Rattle.sc_syntax.specs.declared.Mark.TheVariants as m
-use Rattle.sc_parse.specs.Rules.{rule, chain_of, word_chain_of, wires, numbers, block, if_else, while_loop, for_loop}
-use Rattle.sc_parse.specs.Trees.{Tree, token, name, width, wire, num, expr, decl, init, stmt, meas, param, part, word_expr, word_param, bind, if_there}
-use Rattle.sc_parse.specs.Derives.{Derives, nothing, one_token, both, left, right, no_more, more, deeper, not_next, built, Builds, set_is, stepped_is, step_is, measured_is, start_numbers, start_set, chain_is, operand_is, word_chain_is, word_operand_is}
+use Rattle.sc_parse.specs.Rules.{rule, chain_of, word_chain_of, block, if_else, while_loop, for_loop}
+use Rattle.sc_parse.specs.Trees.{Tree, token, wire, num, expr, stmt}
+use Rattle.sc_parse.specs.Derives.{Derives, nothing, one_token, both, left, right, no_more, more, deeper, built, Builds, start_numbers, start_set, chain_is, operand_is, word_chain_is, word_operand_is}
 use Rattle.sc_parse.proofs.Sorts.{name_sort, main_sort}
 
 -- ---- what stands for a symbol

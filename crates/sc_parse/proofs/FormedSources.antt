@@ -1,5 +1,5 @@
 -- The tree of tokens that were read from a source is formed.
-use Rattle.std.proofs.Common.{◌≡◌, refl, ap, subst, ℕ, suc, ◌+◌, ◌≤◌, List, [], ◌∷◌, ◌++◌, length, arith}
+use Rattle.std.proofs.Common.{◌≡◌, refl, ap, ℕ, suc, ◌+◌, ◌≤◌, List, [], ◌∷◌, ◌++◌, length, arith}
 use Rattle.std.proofs.lemmas.List.Elements.{All-head, All-tail}
 use Rattle.std.specs.List.{All}
 use Rattle.sc_syntax.specs.declared.Token.{Token}
@@ -8,11 +8,11 @@ use Rattle.sc_syntax.specs.Formed.{IsFormedPart, IsFormedSource}
 use Rattle.sc_syntax.specs.FormedWords.{max_items}
 use Rattle.sc_syntax.specs.TokenLists.{FitsText, IsRead, AreRead}
 use Rattle.sc_parse.specs.Form.{Form}
-use Rattle.sc_parse.specs.Pieces.{Piece, piece, pieces}
+use Rattle.sc_parse.specs.Pieces.{Piece, pieces}
 use Rattle.sc_parse.specs.Trees.{Tree, part, each}
 use Rattle.sc_parse.specs.Grammar.{IsTreeOf}
 use Rattle.sc_parse.specs.Derives.{Derives, nothing, one_token, both, left, right, no_more, more, deeper, not_next, built}
-use Rattle.sc_parse.proofs.FormedTrees.{IsFormedTree, AreFormedTrees, weight, weights, formed-append, weights-append, list_formed}
+use Rattle.sc_parse.proofs.FormedTrees.{AreFormedTrees, weights, formed-append, weights-append, list_formed}
 use Rattle.sc_parse.proofs.FormedParts.{known}
 use Rattle.sc_parse.proofs.FormedPhrases.{builds_formed}
 

@@ -1,5 +1,5 @@
 -- What single steps of building a tree need: texts and numbers of tokens, marks that set, and gates that measure.
-use Rattle.std.proofs.Common.{◌≡◌, refl, sym, ap, subst, ℕ, ℤ, pos, ◌≤ℤ◌, ◌≤◌, List, [], ◌∷◌, ◌++◌, Option, Some, None, arith}
+use Rattle.std.proofs.Common.{◌≡◌, subst, ℕ, ℤ, pos, ◌≤ℤ◌, List, [], ◌∷◌, ◌++◌, Option, Some, None, arith}
 use Rattle.std.proofs.lemmas.Int.{ints}
 use Rattle.std.specs.declared.alloc.Global.{Global}
 use Rattle.std.specs.declared.boxed.Box.{Box}
@@ -20,13 +20,13 @@ use Rattle.sc_syntax.specs.declared.TokenSort.{TokenSort}
 use Rattle.sc_syntax.specs.declared.TokenSort.TheVariants as sort
 use Rattle.sc_syntax.specs.Names.{IsName}
 use Rattle.sc_syntax.specs.TokenLists.{FitsText}
-use Rattle.sc_syntax.specs.Formed.{IsFormedExpr, IsFormedStmt, IsFormedOption, HasItsValue, IsMeasuring, IsFormedOperand}
+use Rattle.sc_syntax.specs.Formed.{IsFormedExpr, IsFormedStmt, HasItsValue, IsMeasuring}
 use Rattle.sc_parse.specs.declared.terminal.Terminal.TheVariants.{Measuring}
 use Rattle.sc_parse.specs.Terminals.{gate_kind}
 use Rattle.sc_parse.specs.Pieces.{Piece}
 use Rattle.sc_parse.specs.Trees.{Tree, token, name, expr, stmt, meas, if_there, set_of, step_of}
 use Rattle.sc_parse.specs.Derives.{does}
-use Rattle.sc_parse.proofs.FormedTrees.{IsFormedTree, AreFormedTrees, formed_front, formed_rest, option_formed}
+use Rattle.sc_parse.proofs.FormedTrees.{AreFormedTrees, formed_front, formed_rest, option_formed}
 use Rattle.sc_parse.proofs.FormedParts.{IsFor}
 
 -- ---- tokens
