@@ -73,14 +73,11 @@ fn sources_of_the_first_form_are_written(rt: HostRuntime) -> Result<(), Fail> {
 }
 
 /// Sources that are not of the first form.
-const UNBUILT: [&str; 8] = [
-    "",
+const UNBUILT: [&str; 5] = [
     "int main() { qbit q[1]; CNOT(q[0],q[0]); }\n",
     "int main() { qbit q; }\n",
     "int main() { qbit q[0]; }\n",
     "int main() { qbit q[2]; H(q[2]); }\n",
-    "int main() { qbit q[1]; qbit q[1]; }\n",
-    "int main() { H(q[0]); }\n",
     "int main() { qbit q[65537]; }\n",
 ];
 
@@ -100,13 +97,18 @@ fn other_sources_are_unbuilt(rt: HostRuntime) -> Result<(), Fail> {
 }
 
 /// Sources whose tokens have a fault or leave the grammar, with the fault's line.
-const MISTAKEN: [(&str, &str); 6] = [
+const MISTAKEN: [(&str, &str); 11] = [
     ("int main() { /* x", "scaff: 1:14: OpenComment\n"),
     ("int main() { int x = 12ab; }\n", "scaff: 1:22: BadNumber\n"),
     ("int main() { }\n  @\n", "scaff: 2:3: BadByte\n"),
     ("#define N (1\nint main() { }\n", "scaff: 1:1: BadDefine\n"),
     ("int main() { H(; }\n", "scaff: 1:16: Syntax\n"),
     ("int main() { H(; } @\n", "scaff: 1:20: BadByte\n"),
+    ("", "scaff: NoMain\n"),
+    ("int main() { qbit q[1]; qbit q[1]; }\n", "scaff: 1:30: Redefined\n"),
+    ("int main() { H(q[0]); }\n", "scaff: 1:16: UnknownName\n"),
+    ("int main() { qbit q; H(r); }\n", "scaff: 1:24: UnknownName\n"),
+    ("int main() { cbit c; if (c) ; }\n", "scaff: 1:26: MeasuredUse\n"),
 ];
 
 #[test]
@@ -156,7 +158,7 @@ fn a_source_has_at_most_4194304_tokens(rt: HostRuntime) -> Result<(), Fail> {
 fn a_source_has_at_most_16777216_bytes(rt: HostRuntime) -> Result<(), Fail> {
     let alloc = rt.alloc();
     let most = vec![in alloc; b' '; 16_777_216]?;
-    shows(&rt, alloc, &most, b"", b"scaff: Unbuilt\n", 1)?;
+    shows(&rt, alloc, &most, b"", b"scaff: NoMain\n", 1)?;
     let more = vec![in alloc; b' '; 16_777_217]?;
     shows(&rt, alloc, &more, b"", b"scaff: SourceTooLarge\n", 5)
 }

@@ -5,13 +5,16 @@ use Rattle.sc_gate.specs.Lines.{flat_text}
 use Rattle.sc_syntax.specs.Lexing.{IsLexed, HasFault}
 use Rattle.sc_syntax.specs.declared.LexFault.{LexFault}
 use Rattle.sc_syntax.specs.declared.Token.{Token}
-use Rattle.sc_parse.specs.Grammar.{IsAccepted, IsFault as LeavesGrammar}
+use Rattle.sc_syntax.specs.declared.Source.{Source}
+use Rattle.sc_parse.specs.Grammar.{IsAccepted, IsTreeOf, IsFault as LeavesGrammar}
 use Rattle.sc_parse.specs.Pieces.{pieces}
 use Rattle.sc_parse.specs.declared.source.ParseFault.{ParseFault}
-use Rattle.sc_top.specs.Fault.{token_fault, grammar_fault}
+use Rattle.sc_types.specs.Sources.{fault_of}
+use Rattle.sc_types.specs.declared.fault.TypeFault.{TypeFault}
+use Rattle.sc_top.specs.Fault.{token_fault, grammar_fault, type_fault}
 use Rattle.sc_top.specs.First.{Made, IsFirstForm}
 use Rattle.sc_top.specs.declared.fault.Fault.{Fault}
-use Rattle.sc_top.specs.declared.fault.Fault.TheVariants.{Usage, ReadFault, SourceTooLarge, At, Unbuilt, Memory, WriteFault}
+use Rattle.sc_top.specs.declared.fault.Fault.TheVariants.{Usage, ReadFault, SourceTooLarge, At, NoMain, Unbuilt, Memory, WriteFault}
 use Rattle.sc_top.specs.declared.request.Request.{Request}
 use Rattle.sc_top.specs.declared.request.Request.TheVariants.{Flat}
 
@@ -72,15 +75,30 @@ pub record IsMisparsed (fault : Fault) (text : List ℕ) : Type 0 where
   pub leaves : LeavesGrammar text tokens mistake
   pub is : fault ≡ grammar_fault mistake
 
--- the text has this fault in its tokens, or else in its grammar
-abbrev pub IsMistaken : Fault → List ℕ → Type 0
-IsMistaken fault text = IsMisread fault text ⊎ IsMisparsed fault text
-
--- the text is in the grammar, but not of the first form
-pub record IsUnbuilt (text : List ℕ) : Type 0 where
+-- the text has tokens that are not of the first form, but of this tree
+pub record HasTree (text : List ℕ) (tree : Source) : Type 0 where
   pub tokens : List Token
   pub other : IsOther text tokens
   pub accepted : IsAccepted (pieces text tokens)
+  pub derives : IsTreeOf text tokens tree
+
+-- the text is of a tree that is not well typed, which has this fault
+pub record IsMistyped (fault : Fault) (text : List ℕ) : Type 0 where
+  pub tree : Source
+  pub has : HasTree text tree
+  pub mistake : TypeFault
+  pub first : fault_of tree ≡ Some mistake
+  pub is : fault ≡ type_fault mistake
+
+-- the text has this fault in its tokens, or else in its grammar, or else in its names and kinds
+abbrev pub IsMistaken : Fault → List ℕ → Type 0
+IsMistaken fault text = IsMisread fault text ⊎ IsMisparsed fault text ⊎ IsMistyped fault text
+
+-- the text is well typed, but not of the first form
+pub record IsUnbuilt (text : List ℕ) : Type 0 where
+  pub tree : Source
+  pub has : HasTree text tree
+  pub typed : fault_of tree ≡ None
 
 -- the text is a source of the first form, and its flat text was written
 pub record IsWritten (Written : List ℕ → Type 0) (text : List ℕ) : Type 0 where
@@ -96,6 +114,7 @@ Cause NoRequest Text ShelfRose OutRose Usage = NoRequest
 Cause NoRequest Text ShelfRose OutRose ReadFault = ShelfRose
 Cause NoRequest Text ShelfRose OutRose SourceTooLarge = Text IsTooLarge
 Cause NoRequest Text ShelfRose OutRose (At m place) = Text (IsMistaken (At m place))
+Cause NoRequest Text ShelfRose OutRose NoMain = Text (IsMistaken NoMain)
 Cause NoRequest Text ShelfRose OutRose Unbuilt = Text IsUnbuilt
 Cause NoRequest Text ShelfRose OutRose Memory = Unit {0}
 Cause NoRequest Text ShelfRose OutRose WriteFault = OutRose

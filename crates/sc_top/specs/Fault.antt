@@ -7,8 +7,10 @@ use Rattle.sc_syntax.specs.declared.LexFault.{LexFault}
 use Rattle.sc_syntax.specs.declared.LexFault.TheVariants as lexing
 use Rattle.sc_parse.specs.declared.source.ParseFault.{ParseFault}
 use Rattle.sc_parse.specs.declared.source.ParseFault.TheVariants as parsing
+use Rattle.sc_types.specs.declared.fault.TypeFault.{TypeFault}
+use Rattle.sc_types.specs.declared.fault.TypeFault.TheVariants as typing
 use Rattle.sc_top.specs.declared.fault.Fault.{Fault}
-use Rattle.sc_top.specs.declared.fault.Fault.TheVariants.{Usage, ReadFault, SourceTooLarge, At, Unbuilt, Memory, WriteFault}
+use Rattle.sc_top.specs.declared.fault.Fault.TheVariants.{Usage, ReadFault, SourceTooLarge, At, NoMain, Unbuilt, Memory, WriteFault}
 use Rattle.sc_top.specs.declared.fault.Mistake.{Mistake}
 use Rattle.sc_top.specs.declared.fault.Mistake.TheVariants as mistake
 use Rattle.sc_top.specs.declared.status.Status.{Status}
@@ -29,6 +31,17 @@ grammar_fault (parsing.Syntax place) = At mistake.Syntax place
 grammar_fault (parsing.TooNested place) = At mistake.TooNested place
 grammar_fault parsing.Memory = Memory
 
+-- the fault of a request over a source that is not well typed for this reason
+abbrev pub type_fault : TypeFault → Fault
+type_fault (typing.UnknownName place) = At mistake.UnknownName place
+type_fault (typing.Redefined place) = At mistake.Redefined place
+type_fault (typing.WrongKind place) = At mistake.WrongKind place
+type_fault (typing.WrongCount place) = At mistake.WrongCount place
+type_fault (typing.MeasuredUse place) = At mistake.MeasuredUse place
+type_fault (typing.BadWidth place) = At mistake.BadWidth place
+type_fault typing.NoMain = NoMain
+type_fault typing.Memory = Memory
+
 -- a limit is passed; every other mistake refuses the source
 abbrev pub is_limit : Mistake → Bool
 is_limit mistake.TooManyTokens = true
@@ -40,6 +53,7 @@ status_of Usage = status.Usage
 status_of ReadFault = status.ReadFailed
 status_of SourceTooLarge = status.Limit
 status_of (At m place) = if is_limit m then status.Limit else status.Refused
+status_of NoMain = status.Refused
 status_of Unbuilt = status.Refused
 status_of Memory = status.Memory
 status_of WriteFault = status.WriteFailed
@@ -52,12 +66,19 @@ mistake_name mistake.BadDefine = codes "BadDefine"
 mistake_name mistake.TooManyTokens = codes "TooManyTokens"
 mistake_name mistake.Syntax = codes "Syntax"
 mistake_name mistake.TooNested = codes "TooNested"
+mistake_name mistake.UnknownName = codes "UnknownName"
+mistake_name mistake.Redefined = codes "Redefined"
+mistake_name mistake.WrongKind = codes "WrongKind"
+mistake_name mistake.WrongCount = codes "WrongCount"
+mistake_name mistake.MeasuredUse = codes "MeasuredUse"
+mistake_name mistake.BadWidth = codes "BadWidth"
 
 abbrev pub fault_name : Fault → List ℕ
 fault_name Usage = codes "Usage"
 fault_name ReadFault = codes "ReadFault"
 fault_name SourceTooLarge = codes "SourceTooLarge"
 fault_name (At m place) = mistake_name m
+fault_name NoMain = codes "NoMain"
 fault_name Unbuilt = codes "Unbuilt"
 fault_name Memory = codes "Memory"
 fault_name WriteFault = codes "WriteFault"

@@ -1,12 +1,13 @@
 //! Why a request is refused.
 ghost use Rattle.std.specs.Prelude.{◌≡◌, ◌≤◌, ◌++◌, length, ◌+◌};
-ghost use Rattle.sc_top.specs.Fault.{status_of, fault_line, fault_name, is_limit, mistake_name, place_text, token_fault, grammar_fault};
+ghost use Rattle.sc_top.specs.Fault.{status_of, fault_line, fault_name, is_limit, mistake_name, place_text, token_fault, grammar_fault, type_fault};
 
 use crate::status::Status;
 use sc_base::Place;
 use sc_gate::Line;
 use sc_parse::ParseFault;
 use sc_syntax::LexFault;
+use sc_types::TypeFault;
 
 #[derive(Clone, Copy, Debug, PartialEq, Eq)]
 pub(crate) enum Fault {
@@ -15,6 +16,7 @@ pub(crate) enum Fault {
     SourceTooLarge,
     /// What is wrong with the source, and where.
     At(Mistake, Place),
+    NoMain,
     Unbuilt,
     Memory,
     WriteFault,
@@ -30,6 +32,12 @@ pub(crate) enum Mistake {
     TooManyTokens,
     Syntax,
     TooNested,
+    UnknownName,
+    Redefined,
+    WrongKind,
+    WrongCount,
+    MeasuredUse,
+    BadWidth,
 }
 
 /// The fault of a request over a source whose tokens have this fault.
@@ -57,6 +65,22 @@ pub(crate) fn parsing_fault(fault: ParseFault) -> Fault
     }
 }
 
+/// The fault of a request over a source that is not well typed for this reason.
+pub(crate) fn typing_fault(fault: TypeFault) -> Fault
+    ensures { result ≡ type_fault fault }
+{
+    match fault {
+        TypeFault::UnknownName(place) => Fault::At(Mistake::UnknownName, place),
+        TypeFault::Redefined(place) => Fault::At(Mistake::Redefined, place),
+        TypeFault::WrongKind(place) => Fault::At(Mistake::WrongKind, place),
+        TypeFault::WrongCount(place) => Fault::At(Mistake::WrongCount, place),
+        TypeFault::MeasuredUse(place) => Fault::At(Mistake::MeasuredUse, place),
+        TypeFault::BadWidth(place) => Fault::At(Mistake::BadWidth, place),
+        TypeFault::NoMain => Fault::NoMain,
+        TypeFault::Memory => Fault::Memory,
+    }
+}
+
 impl Mistake {
     /// Whether a limit is passed.
     fn is_limit(&self) -> bool
@@ -80,6 +104,12 @@ impl Mistake {
             Mistake::TooManyTokens => b"TooManyTokens",
             Mistake::Syntax => b"Syntax",
             Mistake::TooNested => b"TooNested",
+            Mistake::UnknownName => b"UnknownName",
+            Mistake::Redefined => b"Redefined",
+            Mistake::WrongKind => b"WrongKind",
+            Mistake::WrongCount => b"WrongCount",
+            Mistake::MeasuredUse => b"MeasuredUse",
+            Mistake::BadWidth => b"BadWidth",
         }
     }
 }
@@ -99,7 +129,7 @@ impl Fault {
                     Status::Refused
                 }
             }
-            Fault::Unbuilt => Status::Refused,
+            Fault::NoMain | Fault::Unbuilt => Status::Refused,
             Fault::Memory => Status::Memory,
             Fault::WriteFault => Status::WriteFailed,
         }
@@ -114,6 +144,7 @@ impl Fault {
             Fault::ReadFault => b"ReadFault",
             Fault::SourceTooLarge => b"SourceTooLarge",
             Fault::At(mistake, _) => mistake.name(),
+            Fault::NoMain => b"NoMain",
             Fault::Unbuilt => b"Unbuilt",
             Fault::Memory => b"Memory",
             Fault::WriteFault => b"WriteFault",

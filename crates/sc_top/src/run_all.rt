@@ -10,7 +10,7 @@ ghost use Rattle.sc_top.specs.Fault.{status_of, fault_line, Tells};
 ghost use Rattle.sc_top.specs.First.{Made};
 ghost use Rattle.sc_top.specs.declared.fault.Fault.{Fault as AnyFault};
 
-use crate::fault::{Fault, lexing_fault, parsing_fault};
+use crate::fault::{Fault, lexing_fault, parsing_fault, typing_fault};
 use crate::form::first_form;
 use crate::maker::FormFault;
 use crate::request::{WordsFault, read_words};
@@ -19,6 +19,7 @@ use sc_base::{List, ReadAllFault, Shelf, Sink, Text, WriteFault, read_all, write
 use sc_gate::{Gate, write_flat};
 use sc_parse::parse;
 use sc_syntax::{Tokens, lex};
+use sc_types::check;
 use std::alloc::Global;
 use std::rc::RcStr;
 
@@ -83,7 +84,10 @@ fn refusal(alloc: Global, source: &[u8], tokens: &Tokens) -> Fault
     ensures { Cause ⊥ (λ Says. Says source.now) ⊥ ⊥ result }
 {
     match parse(alloc, source, tokens) {
-        Ok(_) => Fault::Unbuilt,
+        Ok(tree) => match check(alloc, tree) {
+            Ok(_) => Fault::Unbuilt,
+            Err(fault) => typing_fault(fault),
+        },
         Err(fault) => parsing_fault(fault),
     }
 }
@@ -136,7 +140,7 @@ fn tell<E: Sink>(err: &mut E, line: &[u8])
 /// `flat FILE` writes the flat text of the source under FILE to `out`, and ends it. The refusals, in this order:
 /// `Usage` where the words are anything else; `ReadFailed` where the shelf fails; `Limit` where the source has more
 /// than 16,777,216 bytes; `Refused` or `Limit` where its tokens have a fault, the first one, or else where they leave
-/// the grammar; `Refused` where it is not of the first form. `Memory` comes where no memory is found, before the first
+/// the grammar, or else where its names and kinds have one; `Refused` where it is not of the first form. `Memory` comes where no memory is found, before the first
 /// byte of output. After a refusal `out` is unchanged. After `WriteFailed`, where the sink fails, `out` has a prefix of
 /// the text and is not ended. A refusal writes one line to `err` and ends it.
 pub fn run<F: Shelf, O: Sink, E: Sink>(
