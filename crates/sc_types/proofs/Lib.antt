@@ -1,2 +1,6 @@
 pub mod Arguments
+pub mod Nesting
+pub mod ScopeLemmas
+pub mod Standing
 pub mod Telling
+pub mod Ways

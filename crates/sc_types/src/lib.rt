@@ -2,9 +2,12 @@
 #![tactic(auto)]
 
 mod call;
+mod definitions;
 mod fault;
 mod names;
 mod numbers;
+mod scope;
+mod scopes;
 mod want;
 mod wires;
 
