@@ -1,6 +1,9 @@
 pub mod Arguments
 pub mod Nesting
+pub mod PositionLemmas
 pub mod ScopeLemmas
 pub mod Standing
+pub mod TableLemmas
+pub mod TypingLemmas
 pub mod Telling
 pub mod Ways

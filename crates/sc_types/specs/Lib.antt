@@ -1,8 +1,11 @@
 pub mod Checks
 pub mod Declarations
 pub mod Numbers
+pub mod Positions
 pub mod Scopes
 pub mod Sorts
 pub mod Sources
 pub mod Statements
+pub mod Tables
+pub mod Typing
 pub mod Wires

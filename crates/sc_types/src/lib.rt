@@ -2,13 +2,16 @@
 #![tactic(auto)]
 
 mod call;
+mod checked;
 mod definitions;
 mod fault;
 mod names;
 mod numbers;
 mod scope;
 mod scopes;
+mod table;
 mod want;
 mod wires;
 
+pub use checked::Checked;
 pub use fault::TypeFault;
