@@ -1,4 +1,5 @@
 pub mod Arguments
+pub mod FirstPartsLemmas
 pub mod Nesting
 pub mod PositionLemmas
 pub mod ScopeLemmas

@@ -1,13 +1,14 @@
 -- The map of a table, by the bytes of its names.
-use Rattle.std.proofs.Common.{◌≡◌, ℕ, Bool, true, false, cond, List, [], ◌∷◌, map, nat_eq, Option, Some, None, refl, sym, ap, ◌∙◌}
+use Rattle.std.proofs.Common.{◌≡◌, ℕ, Bool, true, false, cond, List, [], ◌∷◌, map, nat_eq, Option, Some, None, refl, sym, ap, subst, ◌∙◌}
 use Rattle.std.specs.Map.{lookup}
+use Rattle.std.specs.Prelude.{is_some}
+use Rattle.std.specs.Option.{option_or}
 use Rattle.std.specs.declared.vec.Vec.{Vec}
 use Rattle.std.specs.declared.alloc.Global.{Global}
 use Rattle.std.specs.Cmp.Lexicographic.{pointwise, same_text}
 use Rattle.indexmap.specs.IndexMap.{insert_entry}
 use Rattle.sc_base.specs.Texts.{same}
-use Rattle.sc_types.specs.Tables.{Numbered, Table, Puts, numbered_entry, number_under}
-use Rattle.sc_types.proofs.Ways.{same_refl}
+use Rattle.sc_types.specs.Tables.{Numbered, Table, Puts, PutsNew, numbered_entry, number_under}
 
 abbrev same_key : Vec ℕ Global → Vec ℕ Global → Bool
 same_key a b = pointwise nat_eq a.items b.items
@@ -53,3 +54,31 @@ pub puts_entry : (k : Vec ℕ Global) (number : ℕ) (es es' : List (Vec ℕ Glo
     → es' ≡ insert_entry (λ (a b : Vec ℕ Global). pointwise nat_eq a.items b.items) es k number
     → Puts (map numbered_entry es) k.items number (map numbered_entry es')
 puts_entry k number es es' is = record { each = λ q. ap (λ l. number_under (map numbered_entry l) q) is ∙ put_entry q k number es }
+
+or_none : (a : Option ℕ) → a ≡ option_or a None
+or_none None = refl
+or_none (Some x) = refl
+
+keeps : (a : Option ℕ) (b : Option ℕ) → is_some a ≡ true → a ≡ option_or a b
+keeps None b e = cc
+keeps (Some x) b e = refl
+
+-- a name that has a number keeps it
+pub puts_nothing : (old : Table) (name : List ℕ) (number : ℕ) → is_some (number_under old name) ≡ true → PutsNew old name number old
+puts_nothing old name number there = record { each = λ q. by q (same q name) refl }
+  where
+    by : (q : List ℕ) (b : Bool) → same q name ≡ b → number_under old q ≡ option_or (number_under old q) (cond b (Some number) None)
+    by q true tied = keeps (number_under old q) (Some number) (ap (λ (n : List ℕ). is_some (number_under old n)) (same_text q name (sym tied)) ∙ there)
+    by q false apart = or_none (number_under old q)
+
+absent : (a : Option ℕ) → is_some a ≡ false → a ≡ None
+absent None e = refl
+absent (Some x) e = cc
+
+pub puts_new : (old new : Table) (name : List ℕ) (number : ℕ) → is_some (number_under old name) ≡ false → Puts old name number new → PutsNew old name number new
+puts_new old new name number free h = record { each = λ q. h.each q ∙ by q (same q name) refl }
+  where
+    by : (q : List ℕ) (b : Bool) → same q name ≡ b → cond b (Some number) (number_under old q) ≡ option_or (number_under old q) (cond b (Some number) None)
+    by q true tied =
+        ap (λ (a : Option ℕ). option_or a (Some number)) (sym (absent (number_under old q) (ap (λ (n : List ℕ). is_some (number_under old n)) (same_text q name (sym tied)) ∙ free)))
+    by q false apart = or_none (number_under old q)

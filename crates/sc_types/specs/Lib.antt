@@ -1,5 +1,6 @@
 pub mod Checks
 pub mod Declarations
+pub mod FirstParts
 pub mod Numbers
 pub mod Positions
 pub mod Scopes

@@ -2,6 +2,7 @@
 use Rattle.std.specs.Prelude.{◌≡◌, ℕ, if◌then◌else◌, Option, Some, None, List, [], ◌∷◌}
 use Rattle.std.specs.declared.vec.Vec.{Vec}
 use Rattle.std.specs.declared.alloc.Global.{Global}
+use Rattle.std.specs.Option.{option_or}
 use Rattle.sc_base.specs.Texts.{same}
 
 -- a name and its number
@@ -27,3 +28,7 @@ number_under (e ∷ es) name = if same name e.name then Some e.number else numbe
 -- the number stands under the name, and every other name has what it had
 pub record Puts (old : Table) (name : List ℕ) (number : ℕ) (new : Table) : Type 0 where
   pub each : (q : List ℕ) → number_under new q ≡ (if same q name then Some number else number_under old q)
+
+-- the same where no number stands under the name, and else nothing
+pub record PutsNew (old : Table) (name : List ℕ) (number : ℕ) (new : Table) : Type 0 where
+  pub each : (q : List ℕ) → number_under new q ≡ option_or (number_under old q) (if same q name then Some number else None)

@@ -5,6 +5,7 @@ mod call;
 mod checked;
 mod definitions;
 mod fault;
+mod first_parts;
 mod names;
 mod numbers;
 mod scope;

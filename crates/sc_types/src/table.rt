@@ -1,6 +1,6 @@
 //! Numbers under names.
 ghost use Rattle.std.specs.Prelude.{◌≡◌, [], OnOk, IfErr};
-ghost use Rattle.sc_types.specs.Tables.{number_under, Puts};
+ghost use Rattle.sc_types.specs.Tables.{number_under, Puts, PutsNew};
 
 use crate::fault::TypeFault;
 use indexmap::IndexMap;
@@ -51,5 +51,22 @@ impl Table {
             Ok(_) => Ok(()),
             Err(_) => Err(TypeFault::Memory),
         }
+    }
+
+    /// Puts the number under a name that has none.
+    pub(crate) fn put_new(
+        &mut self,
+        alloc: Global,
+        name: &Text,
+        number: usize,
+    ) -> Result<(), TypeFault>
+        ensures ok { OnOk result (PutsNew self.old name.now number self.new) }
+        ensures err { IfErr result (λ f. f ≡ TypeFault.Memory) }
+    {
+        if self.get(name).is_some() {
+            return Ok(());
+        }
+        self.put(alloc, name, number)?;
+        Ok(())
     }
 }
