@@ -5,4 +5,5 @@ pub mod Scopes
 pub mod Sorts
 pub mod Sources
 pub mod Statements
+pub mod Walking
 pub mod Wires

@@ -2,6 +2,7 @@
 #![tactic(auto)]
 
 mod call;
+mod declare;
 mod definitions;
 mod fault;
 mod names;
