@@ -1,4 +1,5 @@
 pub mod Arguments
+pub mod Blocks
 pub mod Nesting
 pub mod ScopeLemmas
 pub mod Standing

@@ -1,5 +1,7 @@
 -- The walk over the open scopes: the scopes that it leaves, or the first fault. This is what the functions of this crate promise one another.
 use Rattle.std.specs.Prelude.{Option, Some, None, Result, Ok, Err, List, [], ◌∷◌}
+use Rattle.std.specs.declared.alloc.Global.{Global}
+use Rattle.std.specs.declared.boxed.Box.{Box}
 use Rattle.sc_base.specs.declared.Class.{Class}
 use Rattle.sc_syntax.specs.declared.Kind.TheVariants as kind
 use Rattle.sc_syntax.specs.declared.NumSort.{NumSort}
@@ -67,6 +69,11 @@ abbrev mutual
   pub row_on : {m : _} → List Part → Stack → Row_of-Stmt m → Result Stack TypeFault
   row_on parts stack end_of-Stmt = Ok stack
   row_on parts stack (more_of-Stmt place act rest) = act_on parts stack act >>= λ after. row_on parts after rest
+
+-- the same of a start or an advance as it is in the code
+abbrev pub stmt_on : List Part → Stack → Option (Box Stmt Global) → Result Stack TypeFault
+stmt_on parts stack None = Ok stack
+stmt_on parts stack (Some stmt) = act_on parts stack stmt.value.act
 
 abbrev pub stmts_on : List Part → Stack → List Stmt → Result Stack TypeFault
 stmts_on parts stack [] = Ok stack

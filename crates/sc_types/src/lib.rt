@@ -9,6 +9,8 @@ mod names;
 mod numbers;
 mod scope;
 mod scopes;
+mod set;
+mod statements;
 mod want;
 mod wires;
 
