@@ -4,4 +4,5 @@ pub mod Nesting
 pub mod ScopeLemmas
 pub mod Standing
 pub mod Telling
+pub mod Walks
 pub mod Ways
