@@ -23,7 +23,7 @@ use Rattle.sc_types.specs.Statements.{Walk, only, in_turn, optional, wire_kind, 
 use Rattle.sc_types.specs.Walking.{unless, wire_on, wires_on, init_on, inits_on, inside, act_on, held_on, else_on, row_on, stmts_on}
 use Rattle.sc_types.proofs.Telling.{or_else, fault_append}
 use Rattle.sc_types.proofs.Standing.{Declares, TellsDeclared, declaration, declare, same_declared, same_kinds}
-use Rattle.sc_types.proofs.Nesting.{every_append, every_weaker, AreBeside, AreInside, IsBeside, IsInside, IsMade, HasRoom, Sees, sees, step_in, enter, leave, made_here, made_within, made_inside, room_more, room_within, beside_longer, beside_later, inside_shorter}
+use Rattle.sc_types.proofs.Nesting.{every_append, every_weaker, AreBeside, AreInside, IsBeside, IsInside, IsMade, HasRoom, IsAlike, AreAlike, Sees, sees, step_in, enter, leave, made_here, made_within, made_inside, room_more, room_within, beside_longer, beside_later, inside_shorter}
 
 -- the scopes after a walk at a place; each declaration on the way is as P says
 pub record Walked (P : Declaration → Type 0) (after stack : Stack) (before : List Declaration) (place : Scope) (w : Walk) : Type 0 where
@@ -65,13 +65,13 @@ guarded P cs r stack before place w h = by (first_fault cs) refl r h
     by (Some f) e r h = fails cs w.checks f e
 
 -- checks alone, and then more that knows the same
-pub checks_first : (P : Declaration → Type 0) (cs : List Check) (r : Result Stack TypeFault) (stack : Stack) (before : List Declaration) (place : Scope) (b : List Declaration → Walk)
+checks_first : (P : Declaration → Type 0) (cs : List Check) (r : Result Stack TypeFault) (stack : Stack) (before : List Declaration) (place : Scope) (b : List Declaration → Walk)
     → Tells P r stack before place (b before) → Tells P (unless (first_fault cs) r) stack before place (in_turn before (only cs) b)
 checks_first P cs r stack before place b h =
     subst (λ (known : List Declaration). Tells P (unless (first_fault cs) r) stack before place (record { checks = cs ++ (b known).checks; declares = (b known).declares }))
     (sym (append-nil before)) (guarded P cs r stack before place (b before) h)
 
-pub checks_only : (P : Declaration → Type 0) (cs : List Check) (stack : Stack) (before : List Declaration) (place : Scope) → Stands stack before place
+checks_only : (P : Declaration → Type 0) (cs : List Check) (stack : Stack) (before : List Declaration) (place : Scope) → Stands stack before place
     → Tells P (unless (first_fault cs) (Ok stack)) stack before place (only cs)
 checks_only P cs stack before place h =
     subst (λ (all : List Check). Tells P (unless (first_fault cs) (Ok stack)) stack before place (record { checks = all; declares = [] }))
@@ -124,3 +124,77 @@ own_scope walk stack before place inner i more w is h t = by (walk ([] ∷ stack
           each = k.each;
         }
     by (Err f) k = k
+
+-- the checks know the kinds of the open scopes
+pub checks_known : (P : Declaration → Type 0) (cs : Kinds → List Check) (r : Result Stack TypeFault) (stack : Stack) (before : List Declaration) (place : Scope) (b : List Declaration → Walk)
+    → Stands stack before place → Tells P r stack before place (b before)
+    → Tells P (unless (first_fault (cs (kinds_in stack))) r) stack before place (in_turn before (only (cs (kinds before place))) b)
+checks_known P cs r stack before place b h t =
+    subst (λ (ks : Kinds). Tells P (unless (first_fault (cs ks)) r) stack before place (in_turn before (only (cs (kinds before place))) b))
+    (sym (same_kinds stack before place h)) (checks_first P (cs (kinds before place)) r stack before place b t)
+
+pub only_known : (P : Declaration → Type 0) (cs : Kinds → List Check) (stack : Stack) (before : List Declaration) (place : Scope) → Stands stack before place
+    → Tells P (unless (first_fault (cs (kinds_in stack))) (Ok stack)) stack before place (only (cs (kinds before place)))
+only_known P cs stack before place h =
+    subst (λ (ks : Kinds). Tells P (unless (first_fault (cs ks)) (Ok stack)) stack before place (only (cs (kinds before place))))
+    (sym (same_kinds stack before place h)) (checks_only P (cs (kinds before place)) stack before place h)
+
+pub only_declared : (P : Declaration → Type 0) (cs : Kinds → List Check) (stack : Stack) (before : List Declaration) (place : Scope) → Stands stack before place
+    → Tells P (unless (first_fault (cs (kind_in stack))) (Ok stack)) stack before place (only (cs (declared_kind before place)))
+only_declared P cs stack before place h =
+    subst (λ (ks : Kinds). Tells P (unless (first_fault (cs ks)) (Ok stack)) stack before place (only (cs (declared_kind before place))))
+    (sym (same_declared stack before place h)) (checks_only P (cs (declared_kind before place)) stack before place h)
+
+-- a statement that has a scope of its own
+pub scoped : (walk : Stack → Result Stack TypeFault) (stack : Stack) (before : List Declaration) (place inner : Scope) (i : ℕ) (more : Scope) (w : Walk)
+    → inner ≡ (place ++ i ∷ []) ++ more → Stands stack before place → AreAlike place inner before → AreBeside inner before
+    → (Stands ([] ∷ stack) before inner → AreBeside (inner ++ 0 ∷ []) before → Tells (IsMade inner 0) (walk ([] ∷ stack)) ([] ∷ stack) before inner w)
+    → Tells (IsInside inner) (inside walk stack) stack before place w
+scoped walk stack before place inner i more w is h sight free t =
+    own_scope walk stack before place inner i more w is h
+    (weaker (IsMade inner 0) (IsInside inner) (λ d m. (made_inside inner 0 (d ∷ []) (m, tt)).0) (walk ([] ∷ stack)) ([] ∷ stack) before inner w
+    (t (enter stack before inner free (step_in stack before place inner sight (sees stack before place h))) (beside_longer inner (0 ∷ []) before free)))
+
+-- ---- declarations
+
+abbrev pub IsHere : Scope → Declaration → Type 0
+IsHere place d = d.scope ≡ place
+
+name_told : (stack : Stack) (before : List Declaration) (place : Scope) (name : Name) (k : Kind) → Stands stack before place
+    → Tells (IsHere place) (declared stack name k) stack before place (record { checks = is_new before place name ∷ []; declares = declaration name.text k place ∷ [] })
+name_told stack before place name k h = by (declared stack name k) (declare stack before place name k h)
+  where
+    by : (r : Result Stack TypeFault) → TellsDeclared r stack before place name k
+        → Tells (IsHere place) r stack before place (record { checks = is_new before place name ∷ []; declares = declaration name.text k place ∷ [] })
+    by (Ok after) d = record { fine = d.fine; stands = d.stands; outer = d.outer; each = (refl, tt) }
+    by (Err f) d = d
+
+wire_told : (c : Class) (stack : Stack) (before : List Declaration) (place : Scope) (d : Decl) → Stands stack before place
+    → Tells (IsHere place) (wire_on c stack d) stack before place (walk_decl before place c d)
+wire_told c stack before place d h =
+    subst (λ (ks : Kinds). Tells (IsHere place) (unless (first_fault (optional (int_checks ks) d.size)) (declared stack d.name (wire_kind c d.size))) stack before place (walk_decl before place c d))
+    (sym (same_kinds stack before place h))
+    (guarded (IsHere place) (optional (int_checks (kinds before place)) d.size) (declared stack d.name (wire_kind c d.size)) stack before place
+    (record { checks = is_new before place d.name ∷ []; declares = declaration d.name.text (wire_kind c d.size) place ∷ [] }) (name_told stack before place d.name (wire_kind c d.size) h))
+
+init_told : (s : NumSort) (stack : Stack) (before : List Declaration) (place : Scope) (d : Init) → Stands stack before place
+    → Tells (IsHere place) (init_on s stack d) stack before place (walk_init before place s d)
+init_told s stack before place d h =
+    subst (λ (ks : Kinds). Tells (IsHere place) (unless (first_fault (optional (start_checks ks s) d.start)) (declared stack d.name (kind.Number s))) stack before place (walk_init before place s d))
+    (sym (same_kinds stack before place h))
+    (guarded (IsHere place) (optional (start_checks (kinds before place) s) d.start) (declared stack d.name (kind.Number s)) stack before place
+    (record { checks = is_new before place d.name ∷ []; declares = declaration d.name.text (kind.Number s) place ∷ [] }) (name_told stack before place d.name (kind.Number s) h))
+
+pub wires_told : (c : Class) (ds : List Decl) (stack : Stack) (before : List Declaration) (place : Scope) → Stands stack before place
+    → Tells (IsHere place) (wires_on c stack ds) stack before place (walk_decls before place c ds)
+wires_told c [] stack before place h = nothing (IsHere place) stack before place h
+wires_told c (d ∷ ds) stack before place h =
+    turns (IsHere place) (IsHere place) (IsHere place) (wire_on c stack d) (λ after. wires_on c after ds) stack before place (walk_decl before place c d) (λ known. walk_decls known place c ds)
+    (λ e p. p) (λ e p. p) (wire_told c stack before place d h) (λ after w. wires_told c ds after (before ++ (walk_decl before place c d).declares) place w.stands)
+
+pub inits_told : (s : NumSort) (ds : List Init) (stack : Stack) (before : List Declaration) (place : Scope) → Stands stack before place
+    → Tells (IsHere place) (inits_on s stack ds) stack before place (walk_inits before place s ds)
+inits_told s [] stack before place h = nothing (IsHere place) stack before place h
+inits_told s (d ∷ ds) stack before place h =
+    turns (IsHere place) (IsHere place) (IsHere place) (init_on s stack d) (λ after. inits_on s after ds) stack before place (walk_init before place s d) (λ known. walk_inits known place s ds)
+    (λ e p. p) (λ e p. p) (init_told s stack before place d h) (λ after w. inits_told s ds after (before ++ (walk_init before place s d).declares) place w.stands)
