@@ -1,3 +1,4 @@
+pub mod ActWalks
 pub mod Arguments
 pub mod Blocks
 pub mod Nesting
