@@ -1,5 +1,7 @@
+pub mod ActWalks
 pub mod Arguments
 pub mod FirstPartsLemmas
+pub mod Blocks
 pub mod Nesting
 pub mod PositionLemmas
 pub mod ScopeLemmas
@@ -7,4 +9,5 @@ pub mod Standing
 pub mod TableLemmas
 pub mod TypingLemmas
 pub mod Telling
+pub mod Walks
 pub mod Ways

@@ -10,7 +10,7 @@ use Rattle.sc_base.specs.Texts.{same}
 use Rattle.sc_syntax.specs.declared.Kind.{Kind}
 use Rattle.sc_types.specs.Declarations.{Declaration, Scope, is_prefix, is_seen, declared_kind}
 use Rattle.sc_types.specs.Scopes.{Known, Stack, Stands, innermost, kind_here, kind_in, left}
-use Rattle.sc_types.proofs.Ways.{prefix_shorter, prefix_longer, prefix_append, prefix_step, same_longer, not_seen, not_same, later_place, later_way}
+use Rattle.sc_types.proofs.Ways.{prefix_shorter, prefix_longer, prefix_append, prefix_step, prefix_beyond, other_way, same_longer, not_seen, not_same, later_place, later_way}
 
 -- ---- lists of declarations
 
@@ -86,13 +86,29 @@ pub record Sees (stack : Stack) (before : List Declaration) (place : Scope) : Ty
 pub sees : (stack : Stack) (before : List Declaration) (place : Scope) → Stands stack before place → Sees stack before place
 sees stack before place h = record { seen = h.seen }
 
--- one step further in, where nothing is declared yet
-pub step_in : (stack : Stack) (before : List Declaration) (place : Scope) (i : ℕ) → AreBeside (place ++ i ∷ []) before → Sees stack before place → Sees stack before (place ++ i ∷ [])
-step_in stack before place i free h = record { seen = λ name. h.seen name ∙ sym (ap (option_map (λ (d : Declaration). d.kind)) (last_alike (is_seen (place ++ i ∷ []) name) (is_seen place name) before (alike name))) }
+-- the place further in sees the declaration where the place does
+pub record IsAlike (place inner : Scope) (d : Declaration) : Type 0 where
+  pub alike : is_prefix d.scope inner ≡ is_prefix d.scope place
+
+abbrev pub AreAlike : Scope → Scope → List Declaration → Type 0
+AreAlike place inner ds = AllByRecursion (IsAlike place inner) ds
+
+pub alike_beside : (place : Scope) (i : ℕ) (more : Scope) (ds : List Declaration) → AreBeside (place ++ i ∷ []) ds → AreAlike place ((place ++ i ∷ []) ++ more) ds
+alike_beside place i more = every_weaker (IsBeside (place ++ i ∷ [])) (IsAlike place ((place ++ i ∷ []) ++ more))
+    (λ d h. record { alike = prefix_beyond d.scope (place ++ i ∷ []) more h.beside ∙ prefix_step d.scope place i h.beside })
+
+pub alike_other : (place : Scope) (i j k : ℕ) (ds : List Declaration) → j < k → AreInside ((place ++ i ∷ []) ++ j ∷ []) ds → AreAlike place ((place ++ i ∷ []) ++ k ∷ []) ds
+alike_other place i j k ds lt = every_weaker (IsInside ((place ++ i ∷ []) ++ j ∷ [])) (IsAlike place ((place ++ i ∷ []) ++ k ∷ []))
+    (λ d h. record {
+      alike = other_way (place ++ i ∷ []) d.scope j k h.inside lt ∙ sym (not_seen place d.scope i (prefix_shorter (place ++ i ∷ []) (j ∷ []) d.scope h.inside));
+    }) ds
+
+-- further in, where nothing more is seen
+pub step_in : (stack : Stack) (before : List Declaration) (place inner : Scope) → AreAlike place inner before → Sees stack before place → Sees stack before inner
+step_in stack before place inner same_sight h = record { seen = λ name. h.seen name ∙ sym (ap (option_map (λ (d : Declaration). d.kind)) (last_alike (is_seen inner name) (is_seen place name) before (sight name))) }
   where
-    alike : (name : List ℕ) → AllByRecursion (λ d. is_seen (place ++ i ∷ []) name d ≡ is_seen place name d) before
-    alike name = every_weaker (IsBeside (place ++ i ∷ [])) (λ d. is_seen (place ++ i ∷ []) name d ≡ is_seen place name d)
-        (λ d b. ap (λ s. same name d.name && s) (prefix_step d.scope place i b.beside)) before free
+    sight : (name : List ℕ) → AllByRecursion (λ d. is_seen inner name d ≡ is_seen place name d) before
+    sight name = every_weaker (IsAlike place inner) (λ d. is_seen inner name d ≡ is_seen place name d) (λ d b. ap (λ s. same name d.name && s) b.alike) before same_sight
 
 -- a scope is entered where nothing is declared yet
 pub enter : (stack : Stack) (before : List Declaration) (place : Scope) → AreBeside place before → Sees stack before place → Stands ([] ∷ stack) before place

@@ -74,6 +74,26 @@ prefix_step (x ∷ a) (s ∷ place) i e = by (nat_eq s x) refl (prefix_step a pl
     by true t h = ap (λ b. nat_eq x s && b) (h (ap (λ b. b && is_prefix (place ++ i ∷ []) a) (sym t) ∙ e))
     by false t h = ap (λ b. b && is_prefix a (place ++ i ∷ [])) (eq_swap s x t) ∙ sym (ap (λ b. b && is_prefix a place) (eq_swap s x t))
 
+-- a place further in along a way that nothing begins with sees what the way sees
+pub prefix_beyond : (a way more : List ℕ) → is_prefix way a ≡ false → is_prefix a (way ++ more) ≡ is_prefix a way
+prefix_beyond [] way more e = refl
+prefix_beyond (x ∷ a) [] more e = cc
+prefix_beyond (x ∷ a) (s ∷ way) more e = by (nat_eq s x) refl (prefix_beyond a way more)
+  where
+    by : (b : Bool) → nat_eq s x ≡ b → (is_prefix way a ≡ false → is_prefix a (way ++ more) ≡ is_prefix a way) → (nat_eq x s && is_prefix a (way ++ more)) ≡ (nat_eq x s && is_prefix a way)
+    by true t h = ap (λ b. nat_eq x s && b) (h (ap (λ b. b && is_prefix way a) (sym t) ∙ e))
+    by false t h = ap (λ b. b && is_prefix a (way ++ more)) (eq_swap s x t) ∙ sym (ap (λ b. b && is_prefix a way) (eq_swap s x t))
+
+-- what begins with an earlier number is not seen along a later one
+pub other_way : (way a : List ℕ) (i j : ℕ) → is_prefix (way ++ i ∷ []) a ≡ true → i < j → is_prefix a (way ++ j ∷ []) ≡ false
+other_way [] [] i j e h = cc
+other_way [] (x ∷ a) i j e h =
+    let s : i ≡ x = eqb-true i x (and_left (nat_eq i x) true e) in
+    ap (λ b. b && is_prefix a []) (subst (λ (n : ℕ). nat_eq n j ≡ false) s (eq_swap j i (apart i j h)))
+other_way (s ∷ way) [] i j e h = cc
+other_way (s ∷ way) (x ∷ a) i j e h =
+    ap (λ b. nat_eq x s && b) (other_way way a i j (and_right (nat_eq s x) (is_prefix (way ++ i ∷ []) a) e) h) ∙ and_false (nat_eq x s)
+
 pub same_longer : (a b : List ℕ) → is_prefix a b ≡ false → same a b ≡ false
 same_longer [] b e = cc
 same_longer (x ∷ a) [] e = refl

@@ -9,4 +9,5 @@ pub mod Sources
 pub mod Statements
 pub mod Tables
 pub mod Typing
+pub mod Walking
 pub mod Wires

@@ -3,6 +3,7 @@
 
 mod call;
 mod checked;
+mod declare;
 mod definitions;
 mod fault;
 mod first_parts;
@@ -10,6 +11,8 @@ mod names;
 mod numbers;
 mod scope;
 mod scopes;
+mod set;
+mod statements;
 mod table;
 mod want;
 mod wires;

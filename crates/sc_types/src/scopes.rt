@@ -1,6 +1,6 @@
 //! The scopes that are open at a place.
 ghost use Rattle.std.specs.Prelude.{◌≡◌, ◌≢◌, [], ◌∷◌, Ok, Err, OnOk, IfErr, reverse};
-ghost use Rattle.sc_types.specs.Declarations.{or_pi};
+ghost use Rattle.sc_types.specs.Declarations.{is_pi, or_pi};
 ghost use Rattle.sc_types.specs.Scopes.{kind_in, declared, left};
 
 use crate::fault::TypeFault;
@@ -96,6 +96,12 @@ fn kind_around(outer: &[Scope], name: &[u8]) -> Option<Kind>
     None
 }
 
+pub(crate) fn is_pi(name: &Text) -> bool
+    ensures { result ≡ is_pi name.now }
+{
+    name.as_bytes() == b"M_PI".as_slice()
+}
+
 /// The kind that was found, or else that of `M_PI`.
 fn or_pi(name: &Text, kind: Option<Kind>) -> Option<Kind>
     ensures { result ≡ or_pi name.now kind }
@@ -103,7 +109,7 @@ fn or_pi(name: &Text, kind: Option<Kind>) -> Option<Kind>
     match kind {
         Some(kind) => Some(kind),
         None => {
-            if name.as_bytes() == b"M_PI".as_slice() {
+            if is_pi(name) {
                 Some(Kind::Number(NumSort::Double))
             } else {
                 None
