@@ -1,13 +1,14 @@
 pub mod ActWalks
 pub mod Arguments
-pub mod FirstPartsLemmas
 pub mod Blocks
+pub mod FirstPartsLemmas
 pub mod Nesting
+pub mod ParameterLemmas
 pub mod PositionLemmas
 pub mod ScopeLemmas
 pub mod Standing
 pub mod TableLemmas
-pub mod TypingLemmas
 pub mod Telling
+pub mod TypingLemmas
 pub mod Walks
 pub mod Ways

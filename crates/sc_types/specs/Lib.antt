@@ -2,6 +2,7 @@ pub mod Checks
 pub mod Declarations
 pub mod FirstParts
 pub mod Numbers
+pub mod Parameters
 pub mod Positions
 pub mod Scopes
 pub mod Sorts

@@ -9,6 +9,7 @@ mod fault;
 mod first_parts;
 mod names;
 mod numbers;
+mod params;
 mod scope;
 mod scopes;
 mod set;
