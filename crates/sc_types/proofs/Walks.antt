@@ -160,7 +160,7 @@ scoped walk stack before place inner i more w is h sight free t =
 abbrev pub IsHere : Scope → Declaration → Type 0
 IsHere place d = d.scope ≡ place
 
-name_told : (stack : Stack) (before : List Declaration) (place : Scope) (name : Name) (k : Kind) → Stands stack before place
+pub name_told : (stack : Stack) (before : List Declaration) (place : Scope) (name : Name) (k : Kind) → Stands stack before place
     → Tells (IsHere place) (declared stack name k) stack before place (record { checks = is_new before place name ∷ []; declares = declaration name.text k place ∷ [] })
 name_told stack before place name k h = by (declared stack name k) (declare stack before place name k h)
   where
