@@ -1,13 +1,10 @@
 -- The walk over a statement tells the model's walk, by cases on the tree.
-use Rattle.std.proofs.Common.{◌≡◌, ℕ, zero, suc, ◌+◌, ◌<◌, ◌≤◌, List, [], ◌∷◌, ◌++◌, Option, Some, None, Result, Ok, Err, refl, sym, ap, subst, ◌∙◌, append_assoc, append-nil, arith}
-use Rattle.std.specs.List.{AllByRecursion}
-use Rattle.sc_syntax.specs.declared.Expr.{Expr}
+use Rattle.std.proofs.Common.{◌≡◌, ℕ, suc, List, [], ◌∷◌, ◌++◌, Some, None, Result, Ok, Err, refl, sym, ap, subst, append_assoc, append-nil, arith}
 use Rattle.sc_syntax.specs.declared.Stmt.{Stmt}
 use Rattle.sc_syntax.specs.declared.Act.{Act, Wires, Numbers, Set, Measure, Call, If', While', For', Block', Empty, Held-Act-If-2, None', Some', Row_of-Stmt, end_of-Stmt, more_of-Stmt}
 use Rattle.sc_syntax.specs.declared.Part.{Part}
-use Rattle.sc_syntax.specs.Kind.{Kinds}
 use Rattle.sc_types.specs.declared.fault.TypeFault.{TypeFault}
-use Rattle.sc_types.specs.Checks.{Check, first_fault}
+use Rattle.sc_types.specs.Checks.{first_fault}
 use Rattle.sc_types.specs.Declarations.{Declaration, Scope, is_prefix, kinds}
 use Rattle.sc_types.specs.Numbers.{number_checks}
 use Rattle.sc_types.specs.Scopes.{Stack, Stands, StandsAtBody, kinds_in}
@@ -15,8 +12,8 @@ use Rattle.sc_types.specs.Sorts.{◌>>=◌}
 use Rattle.sc_types.specs.Statements.{Walk, only, in_turn, optional, walk_decls, walk_inits, set_checks, measure_checks, call_checks, walk_act, walk_held, walk_row}
 use Rattle.sc_types.specs.Sources.{walk_stmts}
 use Rattle.sc_types.specs.Walking.{unless, wires_on, inits_on, inside, act_on, held_on, else_on, row_on, stmts_on}
-use Rattle.sc_types.proofs.Nesting.{every_append, every_weaker, AreBeside, AreInside, IsBeside, IsInside, IsMade, HasRoom, AreAlike, IsAlike, sees, step_in, enter, alike_beside, alike_other, made_here, made_within, made_inside, room_more, room_within, beside_longer, beside_later, inside_shorter}
-use Rattle.sc_types.proofs.Walks.{Walked, Tells, IsHere, nothing, turns, weaker, own_scope, scoped, checks_known, only_known, only_declared, wires_told, inits_told}
+use Rattle.sc_types.proofs.Nesting.{every_append, every_weaker, AreBeside, IsBeside, IsInside, IsMade, HasRoom, AreAlike, IsAlike, sees, step_in, enter, alike_beside, alike_other, made_here, made_within, made_inside, room_more, room_within, beside_longer, beside_later, inside_shorter}
+use Rattle.sc_types.proofs.Walks.{Tells, IsHere, nothing, turns, weaker, own_scope, scoped, checks_known, only_known, only_declared, wires_told, inits_told}
 
 -- what is inside a way is inside a shorter one, and in the scope of the statement
 shorter : (way more : Scope) (d : Declaration) → IsInside (way ++ more) d → IsInside way d

@@ -61,13 +61,9 @@ fn test(scopes: &Scopes, test: &Option<Expr>) -> Result<(), TypeFault>
 
 /// A body has a scope of its own, also where it is one declaration.
 #[cycle(walk)]
-fn body<D: Definitions>(
-    definitions: &D,
-    scopes: &mut Scopes,
-    stmt: &Box<Stmt>,
-) -> Result<(), TypeFault>
-    ensures ok { OnOk result (inside (λ inner. act_on (D.parts definitions.now) inner stmt.now.value.act) scopes.old ≡ Ok scopes.new) }
-    ensures err { IfErr result (λ f. f ≢ TypeFault.Memory → inside (λ inner. act_on (D.parts definitions.now) inner stmt.now.value.act) scopes.old ≡ Err f) }
+fn body<D: Definitions>(definitions: &D, scopes: &mut Scopes, stmt: &Stmt) -> Result<(), TypeFault>
+    ensures ok { OnOk result (inside (λ inner. act_on (D.parts definitions.now) inner stmt.now.act) scopes.old ≡ Ok scopes.new) }
+    ensures err { IfErr result (λ f. f ≢ TypeFault.Memory → inside (λ inner. act_on (D.parts definitions.now) inner stmt.now.act) scopes.old ≡ Err f) }
 {
     scopes.enter()?;
     statement(definitions, scopes, stmt)?;
@@ -93,7 +89,7 @@ fn held<D: Definitions>(
 
 /// The first fault of a statement, or the scopes behind it.
 #[cycle(walk)]
-pub(crate) fn statement<D: Definitions>(
+fn statement<D: Definitions>(
     definitions: &D,
     scopes: &mut Scopes,
     stmt: &Stmt,
