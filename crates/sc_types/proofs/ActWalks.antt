@@ -1,21 +1,19 @@
 -- The walk over a statement tells the model's walk, by cases on the tree.
-use Rattle.std.proofs.Common.{◌≡◌, ℕ, zero, suc, ◌+◌, ◌<◌, ◌≤◌, List, [], ◌∷◌, ◌++◌, Option, Some, None, Result, Ok, Err, refl, sym, ap, subst, ◌∙◌, append_assoc, append-nil, arith}
-use Rattle.std.specs.List.{AllByRecursion}
-use Rattle.sc_syntax.specs.declared.Expr.{Expr}
+use Rattle.std.proofs.Common.{◌≡◌, ℕ, suc, List, [], ◌∷◌, ◌++◌, Some, None, Result, Ok, Err, refl, sym, ap, subst, append_assoc, append-nil, arith}
 use Rattle.sc_syntax.specs.declared.Stmt.{Stmt}
 use Rattle.sc_syntax.specs.declared.Act.{Act, Wires, Numbers, Set, Measure, Call, If', While', For', Block', Empty, Held-Act-If-2, None', Some', Row_of-Stmt, end_of-Stmt, more_of-Stmt}
 use Rattle.sc_syntax.specs.declared.Part.{Part}
-use Rattle.sc_syntax.specs.Kind.{Kinds}
 use Rattle.sc_types.specs.declared.fault.TypeFault.{TypeFault}
-use Rattle.sc_types.specs.Checks.{Check, first_fault}
-use Rattle.sc_types.specs.Declarations.{Declaration, Scope, kinds}
+use Rattle.sc_types.specs.Checks.{first_fault}
+use Rattle.sc_types.specs.Declarations.{Declaration, Scope, is_prefix, kinds}
 use Rattle.sc_types.specs.Numbers.{number_checks}
-use Rattle.sc_types.specs.Scopes.{Stack, Stands, kinds_in}
+use Rattle.sc_types.specs.Scopes.{Stack, Stands, StandsAtBody, kinds_in}
 use Rattle.sc_types.specs.Sorts.{◌>>=◌}
 use Rattle.sc_types.specs.Statements.{Walk, only, in_turn, optional, walk_decls, walk_inits, set_checks, measure_checks, call_checks, walk_act, walk_held, walk_row}
+use Rattle.sc_types.specs.Sources.{walk_stmts}
 use Rattle.sc_types.specs.Walking.{unless, wires_on, inits_on, inside, act_on, held_on, else_on, row_on, stmts_on}
-use Rattle.sc_types.proofs.Nesting.{every_append, every_weaker, AreBeside, AreInside, IsBeside, IsInside, IsMade, HasRoom, AreAlike, IsAlike, sees, step_in, enter, alike_beside, alike_other, made_here, made_within, made_inside, room_more, room_within, beside_longer, beside_later, inside_shorter}
-use Rattle.sc_types.proofs.Walks.{Walked, Tells, IsHere, nothing, turns, weaker, own_scope, scoped, checks_known, only_known, only_declared, wires_told, inits_told}
+use Rattle.sc_types.proofs.Nesting.{every_append, every_weaker, AreBeside, IsBeside, IsInside, IsMade, HasRoom, AreAlike, IsAlike, sees, step_in, enter, alike_beside, alike_other, made_here, made_within, made_inside, room_more, room_within, beside_longer, beside_later, inside_shorter}
+use Rattle.sc_types.proofs.Walks.{Tells, IsHere, nothing, turns, weaker, own_scope, scoped, checks_known, only_known, only_declared, wires_told, inits_told}
 
 -- what is inside a way is inside a shorter one, and in the scope of the statement
 shorter : (way more : Scope) (d : Declaration) → IsInside (way ++ more) d → IsInside way d
@@ -138,3 +136,31 @@ mutual
       (act_told parts act stack before place i h (room.free i (omega arith)))
       (λ after w. row_told parts rest after (before ++ (walk_act parts before place (place ++ i ∷ []) act).declares) place (suc i) w.stands
       (room_more place i before (walk_act parts before place (place ++ i ∷ []) act).declares room w.each))
+
+-- ---- the statements of a module
+
+stmts_told : (parts : List Part) (ss : List Stmt) (stack : Stack) (before : List Declaration) (i : ℕ) → Stands stack before [] → HasRoom [] i before
+    → Tells (IsInside []) (stmts_on parts stack ss) stack before [] (walk_stmts parts before i ss)
+stmts_told parts [] stack before i h room = nothing (IsInside []) stack before [] h
+stmts_told parts (s ∷ ss) stack before i h room =
+    turns (IsMade [] i) (IsInside []) (IsInside []) (act_on parts stack s.act) (λ after. stmts_on parts after ss) stack before []
+    (walk_act parts before [] (i ∷ []) s.act) (λ known. walk_stmts parts known (suc i) ss) (kept [] i) (λ d m. m)
+    (act_told parts s.act stack before [] i h (room.free i (omega arith)))
+    (λ after w. stmts_told parts ss after (before ++ (walk_act parts before [] (i ∷ []) s.act).declares) (suc i) w.stands
+    (room_more [] i before (walk_act parts before [] (i ∷ []) s.act).declares room w.each))
+
+body_told : (parts : List Part) (ss : List Stmt) (stack : Stack) (before : List Declaration) → StandsAtBody stack before
+    → Tells (IsInside []) (stmts_on parts stack ss) stack before [] (walk_stmts parts before 0 ss)
+body_told parts ss stack before h = stmts_told parts ss stack before 0 h.stands (record {
+  free = λ j le. every_weaker (λ d. d.scope ≡ []) (IsBeside (j ∷ [])) (λ d e. record { beside = ap (is_prefix (j ∷ [])) e }) before h.outermost;
+})
+
+pub body_fine : (parts : List Part) (ss : List Stmt) (stack after : Stack) → stmts_on parts stack ss ≡ Ok after
+    → (before : List Declaration) → StandsAtBody stack before → first_fault (walk_stmts parts before 0 ss).checks ≡ None
+body_fine parts ss stack after e before h =
+    (subst (λ (r : Result Stack TypeFault). Tells (IsInside []) r stack before [] (walk_stmts parts before 0 ss)) e (body_told parts ss stack before h)).fine
+
+pub body_fault : (parts : List Part) (ss : List Stmt) (stack : Stack) (f : TypeFault) → stmts_on parts stack ss ≡ Err f
+    → (before : List Declaration) → StandsAtBody stack before → first_fault (walk_stmts parts before 0 ss).checks ≡ Some f
+body_fault parts ss stack f e before h =
+    subst (λ (r : Result Stack TypeFault). Tells (IsInside []) r stack before [] (walk_stmts parts before 0 ss)) e (body_told parts ss stack before h)

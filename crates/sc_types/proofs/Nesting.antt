@@ -1,15 +1,14 @@
 -- Scopes inside a place: entered without names, and left with what they declare out of sight.
-use Rattle.std.proofs.Common.{◌≡◌, ℕ, zero, suc, ◌+◌, ◌<◌, ◌≤◌, Bool, true, false, cond, not, ◌&&◌, ◌||◌, List, [], ◌∷◌, ◌++◌, length, drop, nat_eq, Option, Some, None, Result, Ok, Err, refl, sym, ap, subst, ◌∙◌, ◌⊎◌, inl, inr, append-nil, arith}
-use Rattle.std.specs.Prelude.{find, option_map, is_some}
+use Rattle.std.proofs.Common.{◌≡◌, ℕ, suc, ◌<◌, ◌≤◌, Bool, true, false, cond, ◌&&◌, ◌||◌, List, [], ◌∷◌, ◌++◌, Some, None, refl, sym, ap, ◌∙◌, ◌⊎◌, inl, inr, append-nil, arith}
+use Rattle.std.specs.Prelude.{find, option_map}
 use mathlib.Core.List.{reverse}
 use Rattle.std.specs.List.{list_any, AllByRecursion}
 use Rattle.std.specs.Option.{option_or}
 use Rattle.std.proofs.lemmas.List.{reverse-append}
 use Rattle.std.proofs.lemmas.List.Folds.{find-append, list_any-append}
 use Rattle.sc_base.specs.Texts.{same}
-use Rattle.sc_syntax.specs.declared.Kind.{Kind}
 use Rattle.sc_types.specs.Declarations.{Declaration, Scope, is_prefix, is_seen, declared_kind}
-use Rattle.sc_types.specs.Scopes.{Known, Stack, Stands, innermost, kind_here, kind_in, left}
+use Rattle.sc_types.specs.Scopes.{Stack, Stands, kind_in}
 use Rattle.sc_types.proofs.Ways.{prefix_shorter, prefix_longer, prefix_append, prefix_step, prefix_beyond, other_way, same_longer, not_seen, not_same, later_place, later_way}
 
 -- ---- lists of declarations

@@ -1,5 +1,5 @@
 -- The map of a scope, and the scopes around one.
-use Rattle.std.proofs.Common.{◌≡◌, ℕ, ◌+◌, ◌<◌, Bool, cond, List, [], ◌∷◌, ◌++◌, length, map, nat_eq, get_or, take, Option, Some, None, refl, sym, ap, ◌∙◌, arith}
+use Rattle.std.proofs.Common.{◌≡◌, ℕ, ◌+◌, ◌<◌, Bool, cond, List, [], ◌∷◌, ◌++◌, length, map, nat_eq, get_or, take, Some, None, refl, ap, ◌∙◌}
 use Rattle.std.proofs.lemmas.List.{reverse-append, take_more}
 use mathlib.Core.List.{reverse}
 use Rattle.std.specs.Map.{lookup}
@@ -10,7 +10,7 @@ use Rattle.std.specs.Cmp.Lexicographic.{pointwise}
 use Rattle.indexmap.specs.IndexMap.{insert_entry}
 use Rattle.indexmap.proofs.MapLemmas.{insert_entry-absent, absent_from_lookup}
 use Rattle.sc_syntax.specs.declared.Kind.{Kind}
-use Rattle.sc_types.specs.Scopes.{Known, Stack, known, known_entry, kind_here, kind_in}
+use Rattle.sc_types.specs.Scopes.{Known, known, known_entry, kind_here, kind_in}
 
 pub kind_entries : (name : List ℕ) (es : List (Vec ℕ Global × Kind))
     → lookup (λ (k : Vec ℕ Global). pointwise nat_eq name k.items) es ≡ kind_here (map known_entry es) name

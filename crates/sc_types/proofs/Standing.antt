@@ -1,22 +1,21 @@
 -- The stack of scopes stands for the declarations before a place: what a declaration, an entered scope and a left scope do to it.
-use Rattle.std.proofs.Common.{◌≡◌, ℕ, zero, suc, ◌+◌, ◌<◌, ◌≤◌, Bool, true, false, cond, not, ◌&&◌, ◌||◌, List, [], ◌∷◌, ◌++◌, length, drop, nat_eq, Option, Some, None, Result, Ok, Err, refl, sym, ap, subst, ◌∙◌, ◌⊎◌, inl, inr, append_assoc, arith}
+use Rattle.std.proofs.Common.{◌≡◌, ℕ, Bool, true, false, cond, not, ◌&&◌, ◌||◌, List, [], ◌∷◌, ◌++◌, drop, Option, Some, None, Result, Ok, Err, refl, sym, ap, ◌∙◌, arith}
 use Rattle.std.specs.Prelude.{find, option_map, is_some}
 use mathlib.Core.List.{reverse}
-use Rattle.std.specs.List.{list_any, AllByRecursion}
+use Rattle.std.specs.List.{list_any}
 use Rattle.std.specs.Option.{option_or}
 use Rattle.std.specs.Cmp.Lexicographic.{same_text}
 use Rattle.std.proofs.lemmas.List.{reverse-append}
-use Rattle.std.proofs.lemmas.List.Folds.{find-append, list_any-append}
+use Rattle.std.proofs.lemmas.List.Folds.{list_any-append}
 use Rattle.sc_base.specs.Texts.{same}
 use Rattle.sc_syntax.specs.declared.Kind.{Kind}
 use Rattle.sc_syntax.specs.declared.Name.{Name}
-use Rattle.sc_syntax.specs.Kind.{Kinds}
 use Rattle.sc_types.specs.declared.fault.TypeFault.{TypeFault}
 use Rattle.sc_types.specs.declared.fault.TypeFault.TheVariants.{Redefined}
-use Rattle.sc_types.specs.Checks.{Check, check, first_fault}
+use Rattle.sc_types.specs.Checks.{check, first_fault}
 use Rattle.sc_types.specs.Declarations.{Declaration, Scope, is_prefix, is_seen, is_new, declared_kind, or_pi, kinds}
-use Rattle.sc_types.specs.Scopes.{Known, Stack, Stands, known, innermost, kind_here, kind_in, kinds_in, declared, over, left}
-use Rattle.sc_types.proofs.Ways.{same_refl, prefix_refl, prefix_shorter, prefix_longer, prefix_step, same_longer, not_seen, not_same, later_place, later_way}
+use Rattle.sc_types.specs.Scopes.{Known, Stack, Stands, known, innermost, kind_here, kind_in, kinds_in, declared, over}
+use Rattle.sc_types.proofs.Ways.{same_refl, prefix_refl}
 
 -- a declaration in the scope of the place
 abbrev pub declaration : List ℕ → Kind → Scope → Declaration

@@ -1,29 +1,25 @@
 -- What the walk over the open scopes leaves stands for what the walk of the model declares, and its fault is the model's.
-use Rattle.std.proofs.Common.{◌≡◌, ℕ, zero, suc, ◌+◌, ◌<◌, ◌≤◌, Bool, true, false, cond, not, List, [], ◌∷◌, ◌++◌, length, drop, Option, Some, None, Result, Ok, Err, refl, sym, ap, subst, ◌∙◌, append_assoc, append-nil, arith}
+use Rattle.std.proofs.Common.{◌≡◌, ℕ, ◌<◌, List, [], ◌∷◌, ◌++◌, length, drop, Option, Some, None, Result, Ok, Err, refl, sym, ap, subst, ◌∙◌, append_assoc, append-nil, arith}
 use Rattle.std.specs.List.{AllByRecursion}
 use Rattle.sc_base.specs.declared.Class.{Class}
 use Rattle.sc_syntax.specs.declared.Kind.{Kind}
 use Rattle.sc_syntax.specs.declared.Kind.TheVariants as kind
 use Rattle.sc_syntax.specs.declared.NumSort.{NumSort}
 use Rattle.sc_syntax.specs.declared.Name.{Name}
-use Rattle.sc_syntax.specs.declared.Expr.{Expr}
 use Rattle.sc_syntax.specs.declared.Decl.{Decl}
 use Rattle.sc_syntax.specs.declared.Init.{Init}
-use Rattle.sc_syntax.specs.declared.Stmt.{Stmt}
-use Rattle.sc_syntax.specs.declared.Act.{Act, Wires, Numbers, Set, Measure, Call, If', While', For', Block', Empty, Held-Act-If-2, None', Some', Row_of-Stmt, end_of-Stmt, more_of-Stmt}
-use Rattle.sc_syntax.specs.declared.Part.{Part}
 use Rattle.sc_syntax.specs.Kind.{Kinds}
 use Rattle.sc_types.specs.declared.fault.TypeFault.{TypeFault}
 use Rattle.sc_types.specs.Checks.{Check, first_fault}
-use Rattle.sc_types.specs.Declarations.{Declaration, Scope, is_new, is_prefix, declared_kind, kinds}
-use Rattle.sc_types.specs.Numbers.{number_checks, int_checks}
+use Rattle.sc_types.specs.Declarations.{Declaration, Scope, is_new, declared_kind, kinds}
+use Rattle.sc_types.specs.Numbers.{int_checks}
 use Rattle.sc_types.specs.Scopes.{Stack, Stands, kind_in, kinds_in, declared, left}
 use Rattle.sc_types.specs.Sorts.{◌>>=◌}
-use Rattle.sc_types.specs.Statements.{Walk, only, in_turn, optional, wire_kind, start_checks, walk_decl, walk_decls, walk_init, walk_inits, set_checks, measure_checks, call_checks, walk_act, walk_held, walk_row}
-use Rattle.sc_types.specs.Walking.{unless, wire_on, wires_on, init_on, inits_on, inside, act_on, held_on, else_on, row_on, stmts_on}
+use Rattle.sc_types.specs.Statements.{Walk, only, in_turn, optional, wire_kind, start_checks, walk_decl, walk_decls, walk_init, walk_inits}
+use Rattle.sc_types.specs.Walking.{unless, wire_on, wires_on, init_on, inits_on, inside}
 use Rattle.sc_types.proofs.Telling.{or_else, fault_append}
-use Rattle.sc_types.proofs.Standing.{Declares, TellsDeclared, declaration, declare, same_declared, same_kinds}
-use Rattle.sc_types.proofs.Nesting.{every_append, every_weaker, AreBeside, AreInside, IsBeside, IsInside, IsMade, HasRoom, IsAlike, AreAlike, Sees, sees, step_in, enter, leave, made_here, made_within, made_inside, room_more, room_within, beside_longer, beside_later, inside_shorter}
+use Rattle.sc_types.proofs.Standing.{TellsDeclared, declaration, declare, same_declared, same_kinds}
+use Rattle.sc_types.proofs.Nesting.{every_append, every_weaker, AreBeside, AreInside, IsInside, IsMade, AreAlike, sees, step_in, enter, leave, made_inside, beside_longer, inside_shorter}
 
 -- the scopes after a walk at a place; each declaration on the way is as P says
 pub record Walked (P : Declaration → Type 0) (after stack : Stack) (before : List Declaration) (place : Scope) (w : Walk) : Type 0 where
@@ -160,7 +156,7 @@ scoped walk stack before place inner i more w is h sight free t =
 abbrev pub IsHere : Scope → Declaration → Type 0
 IsHere place d = d.scope ≡ place
 
-name_told : (stack : Stack) (before : List Declaration) (place : Scope) (name : Name) (k : Kind) → Stands stack before place
+pub name_told : (stack : Stack) (before : List Declaration) (place : Scope) (name : Name) (k : Kind) → Stands stack before place
     → Tells (IsHere place) (declared stack name k) stack before place (record { checks = is_new before place name ∷ []; declares = declaration name.text k place ∷ [] })
 name_told stack before place name k h = by (declared stack name k) (declare stack before place name k h)
   where

@@ -1,7 +1,7 @@
 -- Ways of scopes: which begins which.
-use Rattle.std.proofs.Common.{◌≡◌, ℕ, zero, suc, ◌+◌, ◌<◌, ◌≤◌, Bool, true, false, ◌&&◌, List, [], ◌∷◌, ◌++◌, nat_eq, refl, sym, ap, subst, ◌∙◌, eq-eqb, eqb-true, arith}
+use Rattle.std.proofs.Common.{◌≡◌, ℕ, ◌<◌, Bool, true, false, ◌&&◌, List, [], ◌∷◌, ◌++◌, nat_eq, refl, sym, ap, subst, ◌∙◌, eq-eqb, eqb-true, arith}
 use Rattle.sc_base.specs.Texts.{same}
-use Rattle.sc_types.specs.Declarations.{Declaration, Scope, is_prefix}
+use Rattle.sc_types.specs.Declarations.{is_prefix}
 
 eq_refl : (n : ℕ) → nat_eq n n ≡ true
 eq_refl n = eq-eqb n n refl

@@ -1,6 +1,6 @@
 -- The scopes that are open at a place, as the code keeps them.
 use Rattle.std.specs.Prelude.{◌≡◌, ℕ, ◌<◌, ◌&&◌, is_some, if◌then◌else◌, Option, Some, None, Result, Ok, Err, List, [], ◌∷◌, ◌++◌, length, drop}
-use Rattle.std.specs.List.{list_any}
+use Rattle.std.specs.List.{list_any, AllByRecursion}
 use Rattle.std.specs.Option.{option_or}
 use Rattle.std.specs.declared.vec.Vec.{Vec}
 use Rattle.std.specs.declared.alloc.Global.{Global}
@@ -70,3 +70,8 @@ pub record Stands (stack : Stack) (before : List Declaration) (place : Scope) : 
   pub is_open : 0 < length stack
   pub seen : (name : List ℕ) → kind_in stack name ≡ declared_kind before place name
   pub own : (name : List ℕ) → is_some (kind_here (innermost stack) name) ≡ list_any (λ d. same name d.name && same place d.scope) before
+
+-- the same at the first statement of a module, where all that is declared are its parameters
+pub record StandsAtBody (stack : Stack) (before : List Declaration) : Type 0 where
+  pub stands : Stands stack before []
+  pub outermost : AllByRecursion (λ d. d.scope ≡ []) before

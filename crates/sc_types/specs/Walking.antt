@@ -5,14 +5,13 @@ use Rattle.std.specs.declared.boxed.Box.{Box}
 use Rattle.sc_base.specs.declared.Class.{Class}
 use Rattle.sc_syntax.specs.declared.Kind.TheVariants as kind
 use Rattle.sc_syntax.specs.declared.NumSort.{NumSort}
-use Rattle.sc_syntax.specs.declared.Expr.{Expr}
 use Rattle.sc_syntax.specs.declared.Decl.{Decl}
 use Rattle.sc_syntax.specs.declared.Init.{Init}
 use Rattle.sc_syntax.specs.declared.Stmt.{Stmt}
 use Rattle.sc_syntax.specs.declared.Act.{Act, Wires, Numbers, Set, Measure, Call, If', While', For', Block', Empty, Held-Act-If-2, None', Some', Row_of-Stmt, end_of-Stmt, more_of-Stmt}
 use Rattle.sc_syntax.specs.declared.Part.{Part}
 use Rattle.sc_types.specs.declared.fault.TypeFault.{TypeFault}
-use Rattle.sc_types.specs.Checks.{Check, first_fault}
+use Rattle.sc_types.specs.Checks.{first_fault}
 use Rattle.sc_types.specs.Numbers.{number_checks, int_checks}
 use Rattle.sc_types.specs.Scopes.{Stack, kind_in, kinds_in, declared, left}
 use Rattle.sc_types.specs.Sorts.{◌>>=◌}

@@ -1,11 +1,13 @@
 //! The walk over statements.
-ghost use Rattle.std.specs.Prelude.{◌≡◌, ◌≢◌, Ok, Err, OnOk, IfErr};
+ghost use Rattle.std.specs.Prelude.{◌≡◌, ◌≢◌, List, None, Some, Ok, Err, OnOk, IfErr};
 ghost use Rattle.std.specs.Result.{result_err};
 ghost use Rattle.sc_types.specs.Checks.{first_fault};
-ghost use Rattle.sc_types.specs.Scopes.{kinds_in};
+ghost use Rattle.sc_types.specs.Scopes.{kinds_in, StandsAtBody};
 ghost use Rattle.sc_types.specs.Numbers.{number_checks};
 ghost use Rattle.sc_types.specs.Statements.{optional, measure_checks, call_checks};
-ghost use Rattle.sc_types.specs.Walking.{inside, act_on, stmt_on};
+ghost use Rattle.sc_types.specs.Declarations.{Declaration};
+ghost use Rattle.sc_types.specs.Sources.{walk_stmts};
+ghost use Rattle.sc_types.specs.Walking.{inside, act_on, stmt_on, stmts_on};
 
 use crate::call::{applied, gate_wants};
 use crate::declare::{inits, wires};
@@ -59,13 +61,9 @@ fn test(scopes: &Scopes, test: &Option<Expr>) -> Result<(), TypeFault>
 
 /// A body has a scope of its own, also where it is one declaration.
 #[cycle(walk)]
-fn body<D: Definitions>(
-    definitions: &D,
-    scopes: &mut Scopes,
-    stmt: &Box<Stmt>,
-) -> Result<(), TypeFault>
-    ensures ok { OnOk result (inside (λ inner. act_on (D.parts definitions.now) inner stmt.now.value.act) scopes.old ≡ Ok scopes.new) }
-    ensures err { IfErr result (λ f. f ≢ TypeFault.Memory → inside (λ inner. act_on (D.parts definitions.now) inner stmt.now.value.act) scopes.old ≡ Err f) }
+fn body<D: Definitions>(definitions: &D, scopes: &mut Scopes, stmt: &Stmt) -> Result<(), TypeFault>
+    ensures ok { OnOk result (inside (λ inner. act_on (D.parts definitions.now) inner stmt.now.act) scopes.old ≡ Ok scopes.new) }
+    ensures err { IfErr result (λ f. f ≢ TypeFault.Memory → inside (λ inner. act_on (D.parts definitions.now) inner stmt.now.act) scopes.old ≡ Err f) }
 {
     scopes.enter()?;
     statement(definitions, scopes, stmt)?;
@@ -91,7 +89,7 @@ fn held<D: Definitions>(
 
 /// The first fault of a statement, or the scopes behind it.
 #[cycle(walk)]
-pub(crate) fn statement<D: Definitions>(
+fn statement<D: Definitions>(
     definitions: &D,
     scopes: &mut Scopes,
     stmt: &Stmt,
@@ -133,5 +131,32 @@ pub(crate) fn statement<D: Definitions>(
         }
         Act::Empty => {}
     }
+    Ok(())
+}
+
+fn walk<D: Definitions>(
+    definitions: &D,
+    scopes: &mut Scopes,
+    stmts: &[Stmt],
+) -> Result<(), TypeFault>
+    ensures ok { OnOk result (stmts_on (D.parts definitions.now) scopes.old stmts.now ≡ Ok scopes.new) }
+    ensures err { IfErr result (λ f. f ≢ TypeFault.Memory → stmts_on (D.parts definitions.now) scopes.old stmts.now ≡ Err f) }
+{
+    for stmt in stmts {
+        statement(definitions, scopes, stmt)?;
+    }
+    Ok(())
+}
+
+/// The first fault of the statements of a module, in the scope of its parameters.
+pub(crate) fn statements<D: Definitions>(
+    definitions: &D,
+    scopes: &mut Scopes,
+    stmts: &[Stmt],
+) -> Result<(), TypeFault>
+    ensures none { OnOk result ((before : List Declaration) → StandsAtBody scopes.old before → first_fault (walk_stmts (D.parts definitions.now) before 0 stmts.now).checks ≡ None) }
+    ensures err { IfErr result (λ f. f ≢ TypeFault.Memory → (before : List Declaration) → StandsAtBody scopes.old before → first_fault (walk_stmts (D.parts definitions.now) before 0 stmts.now).checks ≡ Some f) }
+{
+    walk(definitions, scopes, stmts)?;
     Ok(())
 }

@@ -1,7 +1,6 @@
-use Rattle.std.proofs.Common.{List, [], ◌∷◌, Result, Ok, sym, ap, ◌∙◌}
+use Rattle.std.proofs.Common.{List, [], ◌∷◌, Ok, sym, ap, ◌∙◌}
 use Rattle.sc_syntax.specs.declared.Act.{Act}
 use Rattle.sc_syntax.specs.declared.Stmt.{Stmt}
-use Rattle.sc_types.specs.declared.fault.TypeFault.{TypeFault}
 use Rattle.sc_types.specs.Scopes.{Stack, left}
 use Rattle.sc_types.specs.Sorts.{◌>>=◌}
 use Rattle.sc_types.specs.Walking.{act_on, stmts_on}
