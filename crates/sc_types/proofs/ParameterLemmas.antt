@@ -11,14 +11,14 @@ use Rattle.sc_types.specs.Checks.{first_fault}
 use Rattle.sc_types.specs.Declarations.{Declaration, declared_kind, or_pi, is_new}
 use Rattle.sc_types.specs.Parameters.{FindsLastInt, Notes, or_int, length_names, param_on, params_on}
 use Rattle.sc_types.specs.Positions.{last_at, is_past}
-use Rattle.sc_types.specs.Scopes.{Stack, Stands, kind_in, declared}
+use Rattle.sc_types.specs.Scopes.{Stack, Stands, StandsAtBody, kind_in, declared}
 use Rattle.sc_types.specs.Sources.{is_int_named, or_later, length_kinds, length_checks, param_kind, walk_params}
 use Rattle.sc_types.specs.Statements.{Walk}
 use Rattle.sc_types.specs.Tables.{Table, number_under}
 use Rattle.sc_types.specs.Walking.{unless}
 use Rattle.sc_types.proofs.PositionLemmas.{last_at-push, is_later}
-use Rattle.sc_types.proofs.Standing.{TellsDeclared, declaration, declare}
-use Rattle.sc_types.proofs.Walks.{Tells, IsHere, nothing, turns, guarded}
+use Rattle.sc_types.proofs.Standing.{declaration, begins}
+use Rattle.sc_types.proofs.Walks.{Walked, Tells, IsHere, nothing, turns, guarded, name_told}
 
 -- ---- the table of the last `int` parameters
 
@@ -59,15 +59,6 @@ same_length_names stack before last all earlier later p h finds is = λ j name. 
 
 -- ---- the walk
 
-name_told : (stack : Stack) (before : List Declaration) (name : Name) (k : Kind) → Stands stack before []
-    → Tells (IsHere []) (declared stack name k) stack before [] (record { checks = is_new before [] name ∷ []; declares = declaration name.text k [] ∷ [] })
-name_told stack before name k h = by (declared stack name k) (declare stack before [] name k h)
-  where
-    by : (r : Result Stack TypeFault) → TellsDeclared r stack before [] name k
-        → Tells (IsHere []) r stack before [] (record { checks = is_new before [] name ∷ []; declares = declaration name.text k [] ∷ [] })
-    by (Ok after) d = record { fine = d.fine; stands = d.stands; outer = d.outer; each = (refl, tt) }
-    by (Err f) d = d
-
 -- the walk over one parameter
 abbrev walk_param : List Declaration → List Param → Param → Walk
 walk_param before later p = record {
@@ -81,7 +72,7 @@ param_told stack before last all earlier later p h finds is =
     subst (λ (ks : Kinds). Tells (IsHere []) (unless (first_fault (length_checks ks p.sort)) (declared stack p.name (param_kind p.sort))) stack before [] (walk_param before later p))
     (sym (same_length_names stack before last all earlier later p h finds is))
     (guarded (IsHere []) (length_checks (length_kinds before later) p.sort) (declared stack p.name (param_kind p.sort)) stack before []
-    (record { checks = is_new before [] p.name ∷ []; declares = declaration p.name.text (param_kind p.sort) [] ∷ [] }) (name_told stack before p.name (param_kind p.sort) h))
+    (record { checks = is_new before [] p.name ∷ []; declares = declaration p.name.text (param_kind p.sort) [] ∷ [] }) (name_told stack before [] p.name (param_kind p.sort) h))
 
 params_from : (last : Table) (all earlier ps : List Param) (i : ℕ) (stack : Stack) (before : List Declaration) → FindsLastInt all last → all ≡ earlier ++ ps → length earlier ≡ i
     → Stands stack before [] → Tells (IsHere []) (params_on last i stack ps) stack before [] (walk_params before ps)
@@ -93,6 +84,23 @@ params_from last all earlier (p ∷ ps) i stack before finds is at h =
     (λ after w. params_from last all (earlier ++ p ∷ []) ps (suc i) after (before ++ (walk_param before ps p).declares) finds
     (is ∙ sym (append_assoc earlier (p ∷ []) ps)) (omega (arith, length-append earlier (p ∷ []), at)) w.stands)
 
-pub params_told : (last : Table) (params : List Param) (stack : Stack) → FindsLastInt params last → Stands stack [] []
-    → Tells (IsHere []) (params_on last 0 stack params) stack [] [] (walk_params [] params)
-params_told last params stack finds h = params_from last params [] params 0 stack [] finds refl refl h
+params_told : (last : Table) (params : List Param) → FindsLastInt params last → Tells (IsHere []) (params_on last 0 ([] ∷ []) params) ([] ∷ []) [] [] (walk_params [] params)
+params_told last params finds = params_from last params [] params 0 ([] ∷ []) [] finds refl refl (begins [])
+
+-- what is told of a module where its parameters have no fault
+pub record Begins (params : List Param) (after : Stack) : Type 0 where
+  pub fine : first_fault (walk_params [] params).checks ≡ None
+  pub stands : StandsAtBody after (walk_params [] params).declares
+
+pub params_pass : (last : Table) (params : List Param) (stack after : Stack) → FindsLastInt params last → stack ≡ [] ∷ [] → params_on last 0 stack params ≡ Ok after → Begins params after
+params_pass last params stack after finds new ok =
+    let w : Walked (IsHere []) after ([] ∷ []) [] [] (walk_params [] params) =
+    subst (λ (r : Result Stack TypeFault). Tells (IsHere []) r ([] ∷ []) [] [] (walk_params [] params))
+    (ap (λ (s : Stack). params_on last 0 s params) (sym new) ∙ ok) (params_told last params finds) in
+    record { fine = w.fine; stands = record { stands = w.stands; outermost = w.each } }
+
+pub params_fail : (last : Table) (params : List Param) (stack : Stack) (f : TypeFault) → FindsLastInt params last → stack ≡ [] ∷ [] → params_on last 0 stack params ≡ Err f
+    → first_fault (walk_params [] params).checks ≡ Some f
+params_fail last params stack f finds new err =
+    subst (λ (r : Result Stack TypeFault). Tells (IsHere []) r ([] ∷ []) [] [] (walk_params [] params))
+    (ap (λ (s : Stack). params_on last 0 s params) (sym new) ∙ err) (params_told last params finds)

@@ -10,9 +10,11 @@ mod first_parts;
 mod names;
 mod numbers;
 mod params;
+mod parts;
 mod scope;
 mod scopes;
 mod set;
+mod source;
 mod statements;
 mod table;
 mod want;
@@ -20,3 +22,4 @@ mod wires;
 
 pub use checked::Checked;
 pub use fault::TypeFault;
+pub use source::check;
