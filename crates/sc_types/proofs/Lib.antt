@@ -4,6 +4,7 @@ pub mod Blocks
 pub mod FirstPartsLemmas
 pub mod Nesting
 pub mod ParameterLemmas
+pub mod PartLemmas
 pub mod PositionLemmas
 pub mod ScopeLemmas
 pub mod Standing

@@ -1,9 +1,10 @@
 //! The parameters of a module.
-ghost use Rattle.std.specs.Prelude.{◌≡◌, ◌≢◌, Ok, Err, OnOk, IfOk, IfErr};
+ghost use Rattle.std.specs.Prelude.{◌≡◌, ◌≢◌, [], ◌∷◌, None, Some, Ok, Err, OnOk, IfOk, IfErr};
 ghost use Rattle.std.specs.Result.{result_err};
 ghost use Rattle.sc_types.specs.Checks.{first_fault};
 ghost use Rattle.sc_types.specs.Positions.{is_past};
-ghost use Rattle.sc_types.specs.Sources.{length_checks, param_kind as kind_of_param};
+ghost use Rattle.sc_types.specs.Scopes.{StandsAtBody};
+ghost use Rattle.sc_types.specs.Sources.{length_checks, param_kind as kind_of_param, walk_params};
 ghost use Rattle.sc_types.specs.Tables.{number_under};
 ghost use Rattle.sc_types.specs.Parameters.{FindsLastInt, Notes, length_names, param_on, params_on};
 
@@ -32,7 +33,7 @@ fn note(
 }
 
 /// For each name the position of the last `int` parameter of that name.
-pub(crate) fn last_ints(alloc: Global, params: &[Param]) -> Result<Table, TypeFault>
+fn last_ints(alloc: Global, params: &[Param]) -> Result<Table, TypeFault>
     ensures ok { IfOk result (FindsLastInt params.now) }
     ensures err { IfErr result (λ f. f ≡ TypeFault.Memory) }
 {
@@ -132,7 +133,7 @@ fn declare_param(
 }
 
 /// The parameters in order, where the table has the positions of the last `int` parameters.
-pub(crate) fn declare_params(
+fn declare_params(
     scopes: &mut Scopes,
     last: &Table,
     params: &[Param],
@@ -144,4 +145,16 @@ pub(crate) fn declare_params(
         declare_param(scopes, last, i, param)?;
     }
     Ok(())
+}
+
+/// The scope of a module with its parameters.
+pub(crate) fn module_scope(alloc: Global, params: &[Param]) -> Result<Scopes, TypeFault>
+    ensures scopes { IfOk result (λ s. StandsAtBody s (walk_params [] params.now).declares) }
+    ensures none { OnOk result (first_fault (walk_params [] params.now).checks ≡ None) }
+    ensures err { IfErr result (λ f. f ≢ TypeFault.Memory → first_fault (walk_params [] params.now).checks ≡ Some f) }
+{
+    let last = last_ints(alloc, params)?;
+    let mut scopes = Scopes::new(alloc);
+    declare_params(&mut scopes, &last, params)?;
+    Ok(scopes)
 }

@@ -11,8 +11,7 @@ ghost use Rattle.sc_types.specs.Typing.{IsTyped, AreTyped};
 use crate::definitions::Definitions;
 use crate::fault::TypeFault;
 use crate::first_parts::{FirstParts, name_of, push};
-use crate::params::{declare_params, last_ints};
-use crate::scopes::Scopes;
+use crate::params::module_scope;
 use crate::statements::statements;
 use sc_base::List;
 use sc_syntax::{Module, Part, WordFn};
@@ -28,10 +27,7 @@ fn check_module<D: Definitions>(
     ensures none { OnOk result (first_fault (walk_module (D.parts definitions.now) checked.now).checks ≡ None) }
     ensures err { IfErr result (λ f. f ≢ TypeFault.Memory → first_fault (walk_module (D.parts definitions.now) checked.now).checks ≡ Some f) }
 {
-    let params = checked.params.as_slice();
-    let last = last_ints(alloc, params)?;
-    let mut scopes = Scopes::new(alloc);
-    declare_params(&mut scopes, &last, params)?;
+    let mut scopes = module_scope(alloc, checked.params.as_slice())?;
     statements(definitions, &mut scopes, checked.body.as_slice())?;
     Ok(())
 }
