@@ -1,5 +1,5 @@
 -- The checks of the parts of a source, one part after the other.
-use Rattle.std.proofs.Common.{◌≡◌, ◌≢◌, ℕ, zero, suc, ◌+◌, ◌<◌, ◌≤◌, Bool, true, false, cond, not, List, [], ◌∷◌, ◌++◌, length, map, take, drop, get_or, Option, Some, None, refl, sym, ap, subst, ◌∙◌, length-take, add-one, eqb-true, arith}
+use Rattle.std.proofs.Common.{◌≡◌, ◌≢◌, ℕ, zero, suc, ◌+◌, ◌<◌, ◌≤◌, Bool, true, false, cond, not, List, [], ◌∷◌, ◌++◌, length, map, take, drop, get_or, Option, Some, None, refl, sym, ap, subst, ◌∙◌, arith}
 use Rattle.std.specs.Prelude.{slice_get, option_map}
 use Rattle.std.specs.List.{list_any}
 use Rattle.std.proofs.Math.Seq.{drop-cons}
@@ -8,6 +8,7 @@ use Rattle.std.proofs.lemmas.Option.{slice_get_read}
 use Rattle.sc_base.specs.Texts.{same}
 use Rattle.sc_syntax.specs.declared.Module.{Module}
 use Rattle.sc_syntax.specs.declared.Part.{Part}
+use Rattle.sc_syntax.specs.declared.Source.{Source}
 use Rattle.sc_syntax.specs.declared.WordFn.{WordFn}
 use Rattle.sc_word.specs.declared.WordFault.{WordFault}
 use Rattle.sc_word.specs.declared.WordFault.TheVariants as word
@@ -18,11 +19,11 @@ use Rattle.sc_types.specs.declared.fault.TypeFault.TheVariants as fault
 use Rattle.sc_types.specs.Checks.{Check, check, first_fault}
 use Rattle.sc_types.specs.FirstParts.{has_name}
 use Rattle.sc_types.specs.Positions.{first_at, is_position}
-use Rattle.sc_types.specs.Sources.{of_word, words_checks, part_checks, parts_checks, is_new_part, name_of, walk_module, walk_params, walk_stmts}
+use Rattle.sc_types.specs.Sources.{of_word, words_checks, part_checks, parts_checks, is_new_part, name_of, walk_module, walk_params, walk_stmts, is_main, fault_of}
 use Rattle.sc_types.specs.Statements.{part_name}
 use Rattle.sc_types.specs.Typing.{IsTyped, AreTyped}
 use Rattle.sc_types.proofs.FirstPartsLemmas.{name_text}
-use Rattle.sc_types.proofs.PositionLemmas.{is_first}
+use Rattle.sc_types.proofs.PositionLemmas.{is_first, position_is}
 use Rattle.sc_types.proofs.Telling.{or_else, fault_append}
 use Rattle.sc_types.proofs.TypingLemmas.{typed-push}
 use Rattle.sc_types.proofs.Ways.{same_refl}
@@ -143,3 +144,24 @@ all_typed all i ws end h = subst (λ (ps : List Part). AreTyped ps ws) (take_all
 
 pub all_fine : (all : List Part) (i : ℕ) (ws : List (Option TypedWords)) → length all ≤ i → GoesOn all i ws → first_fault (parts_checks all [] all) ≡ None
 all_fine all i ws end h = sym h.fault ∙ ap (λ (ps : List Part). first_fault (parts_checks all (take i all) ps)) (drop_all i all end)
+
+-- ---- the module `main`
+
+pub main_found : (all : List Part) (i : ℕ) (p : Part) → i < length all → p ≡ get_or all i p → list_any is_main (take i all) ≡ false → is_main p ≡ true
+    → first_at is_main all ≡ Some i
+main_found all i p within is none passes =
+    let c = cut_at all i p (slice_get_read all (length all) i p refl within is) in
+    position_is i (first_at is_main all)
+    (ap (λ (l : List Part). is_position i (first_at is_main l)) (sym c.0)
+    ∙ ap (λ (n : ℕ). is_position n (first_at is_main (take i all ++ p ∷ drop (suc i) all))) (sym c.1)
+    ∙ is_first is_main (take i all) p (drop (suc i) all) passes
+    ∙ ap not none)
+
+-- ---- a whole source
+
+pub source_fails : (source : Source) (f : TypeFault) → first_fault (parts_checks source.parts [] source.parts) ≡ Some f → fault_of source ≡ Some f
+source_fails source f e = first_fails (parts_checks source.parts [] source.parts) (check (list_any is_main source.parts) fault.NoMain ∷ []) f e
+
+pub source_ends : (source : Source) → first_fault (parts_checks source.parts [] source.parts) ≡ None
+    → fault_of source ≡ first_fault (check (list_any is_main source.parts) fault.NoMain ∷ [])
+source_ends source e = first_passes (parts_checks source.parts [] source.parts) (check (list_any is_main source.parts) fault.NoMain ∷ []) e

@@ -1,5 +1,5 @@
 -- The first and the last that pass, in a list that grows or is read part by part.
-use Rattle.std.proofs.Common.{◌≡◌, ℕ, zero, suc, Bool, true, false, cond, not, ◌||◌, List, [], ◌∷◌, ◌++◌, length, map, nat_eq, nat_lt, Option, Some, None, refl, sym, ap, ◌∙◌, arith}
+use Rattle.std.proofs.Common.{◌≡◌, ℕ, zero, suc, Bool, true, false, cond, not, ◌||◌, List, [], ◌∷◌, ◌++◌, length, map, nat_eq, nat_lt, Option, Some, None, refl, sym, ap, ◌∙◌, eqb-true}
 use Rattle.std.proofs.Math.Dec.{eqb-suc-suc, eqb-zero-suc, leb-suc-suc, leb-zero, leb-suc-zero}
 use Rattle.std.specs.Prelude.{find, option_map, is_some, slice_get}
 use Rattle.std.specs.Option.{option_or, option_and_then}
@@ -105,3 +105,12 @@ found_first test f (x ∷ xs) =
       | true ↦ refl
       | false ↦ skip_one (f x) (map f xs) (first_at test xs) ∙ found_first test f xs
     ]
+
+-- the first that passes
+pub position_is : (i : ℕ) (r : Option ℕ) → is_position i r ≡ true → r ≡ Some i
+position_is i None e = cc
+position_is i (Some j) e = ap Some (eqb-true j i e)
+
+-- one passes where there is a first
+pub some_passes : {A : Type 0} (test : A → Bool) (xs : List A) (i : ℕ) → first_at test xs ≡ Some i → list_any test xs ≡ true
+some_passes test xs i e = some_first test xs ∙ ap is_some e
