@@ -41,7 +41,7 @@ impl Scopes {
         }
     }
 
-    /// Opens a scope without names inside the others.
+    /// Opens a scope without names inside the others. After `Memory` the scopes are of no use.
     pub(crate) fn enter(&mut self) -> Result<(), TypeFault>
         ensures ok { OnOk result (self.new ≡ [] ∷ self.old) }
         ensures err { IfErr result (λ f. f ≡ TypeFault.Memory) }
