@@ -6,7 +6,7 @@ use Rattle.sc_types.specs.declared.fault.TypeFault.{TypeFault}
 use Rattle.sc_types.specs.declared.want.Want.{Want}
 use Rattle.sc_types.specs.Checks.{first_fault}
 use Rattle.sc_types.specs.Wires.{argument_checks, arguments_checks}
-use Rattle.sc_types.proofs.Telling.{or_else, first_fault-append}
+use Rattle.sc_types.proofs.Telling.{or_else, fault_append}
 
 -- the arguments from the i-th on
 abbrev pub rest_fault : Kinds → List Want → List Expr → ℕ → Option TypeFault
@@ -18,7 +18,7 @@ rest_step ks ws es i w e h k p q =
     let s : suc i ≡ i + 1 = omega arith in
     ap (λ (l : List Want). first_fault (arguments_checks ks l (drop i es))) (drop-cons ws i w h ∙ ap (λ (x : Want). x ∷ drop (suc i) ws) (sym p))
     ∙ ap (λ (l : List Expr). first_fault (arguments_checks ks (w ∷ drop (suc i) ws) l)) (drop-cons es i e k ∙ ap (λ (x : Expr). x ∷ drop (suc i) es) (sym q))
-    ∙ first_fault-append (argument_checks ks w e) (arguments_checks ks (drop (suc i) ws) (drop (suc i) es))
+    ∙ fault_append (argument_checks ks w e) (arguments_checks ks (drop (suc i) ws) (drop (suc i) es))
     ∙ ap (λ j. or_else (first_fault (argument_checks ks w e)) (rest_fault ks ws es j)) s
 
 get_or_there : (ws : List Want) (i : ℕ) (d : Want) → i < length ws → get_or ws i d ≡ get_or ws i (get_or ws i d)

@@ -1,2 +1,15 @@
+pub mod ActWalks
 pub mod Arguments
+pub mod Blocks
+pub mod FirstPartsLemmas
+pub mod Nesting
+pub mod ParameterLemmas
+pub mod PartLemmas
+pub mod PositionLemmas
+pub mod ScopeLemmas
+pub mod Standing
+pub mod TableLemmas
 pub mod Telling
+pub mod TypingLemmas
+pub mod Walks
+pub mod Ways

@@ -31,9 +31,9 @@ append_by : (b : Bool) (f : TypeFault) (x y z : Option TypeFault) → x ≡ or_e
 append_by true f x y z h = h
 append_by false f x y z h = refl
 
-pub first_fault-append : (xs ys : List Check) → first_fault (xs ++ ys) ≡ or_else (first_fault xs) (first_fault ys)
-first_fault-append [] ys = refl
-first_fault-append (c ∷ xs) ys = append_by c.passes c.fault (first_fault (xs ++ ys)) (first_fault xs) (first_fault ys) (first_fault-append xs ys)
+pub fault_append : (xs ys : List Check) → first_fault (xs ++ ys) ≡ or_else (first_fault xs) (first_fault ys)
+fault_append [] ys = refl
+fault_append (c ∷ xs) ys = append_by c.passes c.fault (first_fault (xs ++ ys)) (first_fault xs) (first_fault ys) (fault_append xs ys)
 
 -- the answer tells the fault of the checks, or the kind
 abbrev pub Tells : Result NumSort TypeFault → List Check → Option NumSort → Type 0
@@ -48,9 +48,9 @@ tells_more (Ok a) cs k go ds next h g =
     (tells_after (go a) cs (ds (Some a)) (next a) h.0 (g a))
   where
     tells_after : (r : Result NumSort TypeFault) (cs ds : List Check) (k : Option NumSort) → first_fault cs ≡ None → Tells r ds k → Tells r (cs ++ ds) k
-    tells_after (Ok s) cs ds k n t = (first_fault-append cs ds ∙ ap (λ (x : Option TypeFault). or_else x (first_fault ds)) n ∙ t.0, t.1)
-    tells_after (Err f) cs ds k n t = first_fault-append cs ds ∙ ap (λ (x : Option TypeFault). or_else x (first_fault ds)) n ∙ t
-tells_more (Err f) cs k go ds next h g = first_fault-append cs (ds k) ∙ ap (λ (x : Option TypeFault). or_else x (first_fault (ds k))) h
+    tells_after (Ok s) cs ds k n t = (fault_append cs ds ∙ ap (λ (x : Option TypeFault). or_else x (first_fault ds)) n ∙ t.0, t.1)
+    tells_after (Err f) cs ds k n t = fault_append cs ds ∙ ap (λ (x : Option TypeFault). or_else x (first_fault ds)) n ∙ t
+tells_more (Err f) cs k go ds next h g = fault_append cs (ds k) ∙ ap (λ (x : Option TypeFault). or_else x (first_fault (ds k))) h
 
 tells_name : (at : Place) (k : Option Kind) → Tells (sort_of_name at k) (is_number at k ∷ []) (number_kind k)
 tells_name at None = refl
@@ -112,17 +112,17 @@ mutual
 
 tells_int_by : (ks : Kinds) (e : Expr) (r : Result NumSort TypeFault) → Tells r (number_checks ks e) (kind_of_expr ks e) → Tells (r >>= or_not_int e.place) (int_checks ks e) (kind_of_expr ks e)
 tells_int_by ks e (Ok num.Int) h = (
-  first_fault-append (number_checks ks e) (check (is_int (kind_of_expr ks e)) (WrongKind e.place) ∷ [])
+  fault_append (number_checks ks e) (check (is_int (kind_of_expr ks e)) (WrongKind e.place) ∷ [])
       ∙ ap (λ (x : Option TypeFault). or_else x (first_fault (check (is_int (kind_of_expr ks e)) (WrongKind e.place) ∷ []))) h.0
       ∙ ap (λ (k : Option NumSort). first_fault (check (is_int k) (WrongKind e.place) ∷ [])) h.1,
   h.1,
 )
 tells_int_by ks e (Ok num.Double) h =
-    first_fault-append (number_checks ks e) (check (is_int (kind_of_expr ks e)) (WrongKind e.place) ∷ [])
+    fault_append (number_checks ks e) (check (is_int (kind_of_expr ks e)) (WrongKind e.place) ∷ [])
     ∙ ap (λ (x : Option TypeFault). or_else x (first_fault (check (is_int (kind_of_expr ks e)) (WrongKind e.place) ∷ []))) h.0
     ∙ ap (λ (k : Option NumSort). first_fault (check (is_int k) (WrongKind e.place) ∷ [])) h.1
 tells_int_by ks e (Err f) h =
-    first_fault-append (number_checks ks e) (check (is_int (kind_of_expr ks e)) (WrongKind e.place) ∷ [])
+    fault_append (number_checks ks e) (check (is_int (kind_of_expr ks e)) (WrongKind e.place) ∷ [])
     ∙ ap (λ (x : Option TypeFault). or_else x (first_fault (check (is_int (kind_of_expr ks e)) (WrongKind e.place) ∷ []))) h
 
 pub tells_int : (ks : Kinds) (e : Expr) → Tells (int_of ks e) (int_checks ks e) (kind_of_expr ks e)

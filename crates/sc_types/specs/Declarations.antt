@@ -40,9 +40,12 @@ abbrev pub or_pi : List ℕ → Option Kind → Option Kind
 or_pi name (Some kind) = Some kind
 or_pi name None = if is_pi name then Some (Number Double) else None
 
+abbrev pub with_pi : Kinds → Kinds
+with_pi declared name = or_pi name (declared name)
+
 -- what a name stands for
 abbrev pub kinds : List Declaration → Scope → Kinds
-kinds before place name = or_pi name (declared_kind before place name)
+kinds before place = with_pi (declared_kind before place)
 
 -- no declaration of the name stands in the scope itself
 abbrev pub is_new : List Declaration → Scope → Name → Check

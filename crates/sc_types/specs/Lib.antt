@@ -1,7 +1,14 @@
 pub mod Checks
 pub mod Declarations
+pub mod FirstParts
 pub mod Numbers
+pub mod Parameters
+pub mod Positions
+pub mod Scopes
 pub mod Sorts
 pub mod Sources
 pub mod Statements
+pub mod Tables
+pub mod Typing
+pub mod Walking
 pub mod Wires

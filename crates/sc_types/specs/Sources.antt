@@ -14,6 +14,7 @@ use Rattle.sc_syntax.specs.declared.Part.TheVariants as part
 use Rattle.sc_syntax.specs.declared.Param.{Param}
 use Rattle.sc_syntax.specs.declared.Sort.{Sort}
 use Rattle.sc_syntax.specs.declared.Sort.TheVariants as sort
+use Rattle.sc_syntax.specs.declared.WordFn.{WordFn}
 use Rattle.sc_syntax.specs.Kind.{Kinds}
 use Rattle.sc_word.specs.declared.WordFault.{WordFault}
 use Rattle.sc_word.specs.declared.WordFault.TheVariants as word
@@ -78,9 +79,12 @@ of_word (word.Redefined at) = fault.Redefined at
 of_word (word.BadWidth at) = fault.BadWidth at
 of_word word.Memory = fault.Memory
 
+abbrev pub words_checks : WordFn → List Check
+words_checks f = map (λ c. check c.passes (of_word c.fault)) (words.checks f)
+
 abbrev pub part_checks : List Part → Part → List Check
 part_checks parts (part.Module m) = (walk_module parts m).checks
-part_checks parts (part.Words f) = map (λ c. check c.passes (of_word c.fault)) (words.checks f)
+part_checks parts (part.Words f) = words_checks f
 
 abbrev pub name_of : Part → Name
 name_of (part.Module m) = m.name

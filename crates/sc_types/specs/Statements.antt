@@ -1,5 +1,5 @@
 -- The checks of statements, in the order of the walk, and the declarations that they make.
-use Rattle.std.specs.Prelude.{ℕ, suc, ◌+◌, Bool, true, false, nat_eq, if◌then◌else◌, Option, Some, None, List, [], ◌∷◌, ◌++◌, length, map, find, replicate}
+use Rattle.std.specs.Prelude.{ℕ, suc, ◌+◌, Bool, true, false, nat_eq, if◌then◌else◌, Option, Some, None, option_map, List, [], ◌∷◌, ◌++◌, length, map, find, replicate}
 use Rattle.sc_base.specs.Texts.{same}
 use Rattle.sc_base.specs.declared.Place.{Place}
 use Rattle.sc_base.specs.declared.Class.{Class}
@@ -28,7 +28,7 @@ use Rattle.sc_syntax.specs.declared.Sort.TheVariants as sort
 use Rattle.sc_syntax.specs.Kind.{Kinds, ◌>>=◌, kind_of_expr, kind_of_operation}
 use Rattle.sc_types.specs.declared.fault.TypeFault.TheVariants.{UnknownName, WrongKind, WrongCount}
 use Rattle.sc_types.specs.Checks.{Check, check}
-use Rattle.sc_types.specs.Declarations.{Declaration, Scope, kinds, declared_kind, is_pi, is_new}
+use Rattle.sc_types.specs.Declarations.{Declaration, Scope, kinds, with_pi, declared_kind, is_pi, is_new}
 use Rattle.sc_types.specs.Numbers.{number_checks, int_checks, may_operate}
 use Rattle.sc_types.specs.declared.want.Want.{Want}
 use Rattle.sc_types.specs.declared.want.Want.TheVariants.{OneWire, ManyWires, Word, AnInt, ADouble}
@@ -114,11 +114,11 @@ fit_checks name mark x None e = check (goes_into x e) (WrongKind name) ∷ []
 fit_checks name mark x (Some o) e =
     may_operate mark o x e ∷ check (goes_into x (x >>= λ a. e >>= kind_of_operation o a)) (WrongKind name) ∷ []
 
-abbrev pub set_checks : List Declaration → Scope → SetOf → List Check
-set_checks before scope s =
-    may_set s.name.place (is_pi s.name.text) (declared_kind before scope s.name.text)
-    ∷ optional (λ e. number_checks (kinds before scope) e
-    ++ fit_checks s.name.place s.place (number_of (declared_kind before scope s.name.text)) (set_by s.op) (kind_of_expr (kinds before scope) e)) s.value
+abbrev pub set_checks : Kinds → SetOf → List Check
+set_checks declared s =
+    may_set s.name.place (is_pi s.name.text) (declared s.name.text)
+    ∷ optional (λ e. number_checks (with_pi declared) e
+    ++ fit_checks s.name.place s.place (number_of (declared s.name.text)) (set_by s.op) (kind_of_expr (with_pi declared) e)) s.value
 
 -- the left side with its index, and then the measured operand
 abbrev pub measure_checks : Kinds → MeasureOf → List Check
@@ -148,16 +148,20 @@ part_wants (part.Words f) = replicate (length f.params + 1) Word
 abbrev pub applied : Kinds → Place → List Want → List Expr → List Check
 applied ks at wants args = check (nat_eq (length args) (length wants)) (WrongCount at) ∷ arguments_checks ks wants args
 
-abbrev pub called : Kinds → Place → Option Part → List Expr → List Check
+-- what a called name takes
+abbrev pub named_wants : List Part → List ℕ → Option (List Want)
+named_wants parts name = option_map part_wants (definition parts name)
+
+abbrev pub called : Kinds → Place → Option (List Want) → List Expr → List Check
 called ks at None args = check false (UnknownName at) ∷ []
-called ks at (Some p) args = applied ks at (part_wants p) args
+called ks at (Some wants) args = applied ks at wants args
 
 abbrev pub call_checks : List Part → Kinds → CallOf → List Check
 call_checks parts ks c = by_callee c.callee
   where
     by_callee : Callee → List Check
     by_callee (Gate g) = applied ks c.place (gate_wants g (length c.args)) c.args
-    by_callee (Named t) = called ks c.place (definition parts t) c.args
+    by_callee (Named t) = called ks c.place (named_wants parts t) c.args
 
 -- ---- statements; `scope` is the scope that they stand in, and `own` a scope for the statement's own parts
 
@@ -165,7 +169,7 @@ abbrev mutual
   pub walk_act : List Part → List Declaration → Scope → Scope → Act → Walk
   walk_act parts before scope own (Wires c ds) = walk_decls before scope c ds
   walk_act parts before scope own (Numbers s ds) = walk_inits before scope s ds
-  walk_act parts before scope own (Set s) = only (set_checks before scope s)
+  walk_act parts before scope own (Set s) = only (set_checks (declared_kind before scope) s)
   walk_act parts before scope own (Measure m) = only (measure_checks (kinds before scope) m)
   walk_act parts before scope own (Call c) = only (call_checks parts (kinds before scope) c)
   -- a body has a scope of its own, also where it is one declaration

@@ -2,10 +2,24 @@
 #![tactic(auto)]
 
 mod call;
+mod checked;
+mod declare;
+mod definitions;
 mod fault;
+mod first_parts;
 mod names;
 mod numbers;
+mod params;
+mod parts;
+mod scope;
+mod scopes;
+mod set;
+mod source;
+mod statements;
+mod table;
 mod want;
 mod wires;
 
+pub use checked::Checked;
 pub use fault::TypeFault;
+pub use source::check;

@@ -38,7 +38,7 @@ fn wider(a: NumSort, b: NumSort) -> NumSort
     }
 }
 
-fn operated(at: Place, op: BinOp, a: NumSort, b: NumSort) -> Result<NumSort, TypeFault>
+pub(crate) fn operated(at: Place, op: BinOp, a: NumSort, b: NumSort) -> Result<NumSort, TypeFault>
     ensures { result ≡ or_wrong at (kind_of_operation op a b) }
 {
     match op {

@@ -1,0 +1,167 @@
+-- The checks of the parts of a source, one part after the other.
+use Rattle.std.proofs.Common.{◌≡◌, ◌≢◌, ℕ, zero, suc, ◌+◌, ◌<◌, ◌≤◌, Bool, true, false, cond, not, List, [], ◌∷◌, ◌++◌, length, map, take, drop, get_or, Option, Some, None, refl, sym, ap, subst, ◌∙◌, arith}
+use Rattle.std.specs.Prelude.{slice_get, option_map}
+use Rattle.std.specs.List.{list_any}
+use Rattle.std.proofs.Math.Seq.{drop-cons}
+use Rattle.std.proofs.lemmas.List.{take_more, take_all, drop_all}
+use Rattle.std.proofs.lemmas.Option.{slice_get_read}
+use Rattle.sc_base.specs.Texts.{same}
+use Rattle.sc_syntax.specs.declared.Module.{Module}
+use Rattle.sc_syntax.specs.declared.Part.{Part}
+use Rattle.sc_syntax.specs.declared.Source.{Source}
+use Rattle.sc_syntax.specs.declared.WordFn.{WordFn}
+use Rattle.sc_word.specs.declared.WordFault.{WordFault}
+use Rattle.sc_word.specs.declared.WordFault.TheVariants as word
+use Rattle.sc_word.specs.Checks as words
+use Rattle.sc_word.specs.Typed.{TypedWords}
+use Rattle.sc_types.specs.declared.fault.TypeFault.{TypeFault}
+use Rattle.sc_types.specs.declared.fault.TypeFault.TheVariants as fault
+use Rattle.sc_types.specs.Checks.{Check, check, first_fault}
+use Rattle.sc_types.specs.FirstParts.{has_name}
+use Rattle.sc_types.specs.Positions.{first_at, is_position}
+use Rattle.sc_types.specs.Sources.{of_word, words_checks, part_checks, parts_checks, is_new_part, name_of, walk_module, walk_params, walk_stmts, is_main, fault_of}
+use Rattle.sc_types.specs.Statements.{part_name}
+use Rattle.sc_types.specs.Typing.{IsTyped, AreTyped}
+use Rattle.sc_types.proofs.FirstPartsLemmas.{name_text}
+use Rattle.sc_types.proofs.PositionLemmas.{is_first, position_is}
+use Rattle.sc_types.proofs.Telling.{or_else, fault_append}
+use Rattle.sc_types.proofs.TypingLemmas.{typed-push}
+use Rattle.sc_types.proofs.Ways.{same_refl}
+
+-- ---- two lists of checks
+
+pub first_fails : (cs ds : List Check) (f : TypeFault) → first_fault cs ≡ Some f → first_fault (cs ++ ds) ≡ Some f
+first_fails cs ds f e = fault_append cs ds ∙ ap (λ (x : Option TypeFault). or_else x (first_fault ds)) e
+
+pub first_passes : (cs ds : List Check) → first_fault cs ≡ None → first_fault (cs ++ ds) ≡ first_fault ds
+first_passes cs ds e = fault_append cs ds ∙ ap (λ (x : Option TypeFault). or_else x (first_fault ds)) e
+
+-- ---- classical functions
+
+words_fault : (cs : List words.Check) → first_fault (map (λ c. check c.passes (of_word c.fault)) cs) ≡ option_map of_word (words.first_fault cs)
+words_fault [] = refl
+words_fault (c ∷ cs) =
+    elim c.passes as (λ b. cond b (first_fault (map (λ c. check c.passes (of_word c.fault)) cs)) (Some (of_word c.fault)) ≡ option_map of_word (cond b (words.first_fault cs) (Some c.fault))) [
+      | true ↦ words_fault cs
+      | false ↦ refl
+    ]
+
+pub words_fine : (f : WordFn) → words.fault f ≡ None → first_fault (words_checks f) ≡ None
+words_fine f e = words_fault (words.checks f) ∙ ap (option_map of_word) e
+
+pub words_fail : (f : WordFn) (r : WordFault) → words.fault f ≡ Some r → first_fault (words_checks f) ≡ Some (of_word r)
+words_fail f r e = words_fault (words.checks f) ∙ ap (option_map of_word) e
+
+pub other_than_memory : (r : WordFault) → of_word r ≢ fault.Memory → r ≢ word.Memory
+other_than_memory r h e = h (ap of_word e)
+
+-- ---- the name of a part
+
+cut_at : {A : Type 0} (xs : List A) (i : ℕ) (y : A) → slice_get xs i ≡ Some y → (take i xs ++ y ∷ drop (suc i) xs ≡ xs) × (length (take i xs) ≡ i)
+cut_at [] i y e = cc
+cut_at (x ∷ xs) zero y e = let same : x ≡ y = cc in (ap (λ z. z ∷ xs) (sym same), refl)
+cut_at (x ∷ xs) (suc i) y e = let h = cut_at xs i y e in (ap (λ l. x ∷ l) h.0, ap suc h.1)
+
+-- the first part of the name stands at the position where no earlier part has the name
+pub first_of_name : (all : List Part) (i : ℕ) (p : Part) → slice_get all i ≡ Some p
+    → is_position i (first_at (has_name (name_of p).text) all) ≡ not (list_any (λ q. same (part_name p) (part_name q)) (take i all))
+first_of_name all i p e =
+    let c = cut_at all i p e in
+    ap (λ (t : List ℕ). is_position i (first_at (has_name t) all)) (name_text p)
+    ∙ ap (λ (l : List Part). is_position i (first_at (has_name (part_name p)) l)) (sym c.0)
+    ∙ ap (λ (n : ℕ). is_position n (first_at (has_name (part_name p)) (take i all ++ p ∷ drop (suc i) all))) (sym c.1)
+    ∙ is_first (has_name (part_name p)) (take i all) p (drop (suc i) all) (same_refl (part_name p))
+
+told : (b c : Bool) (f : TypeFault) → b ≡ c → first_fault (check b f ∷ []) ≡ first_fault (check c f ∷ [])
+told b c f e = ap (λ x. first_fault (check x f ∷ [])) e
+
+pub is_new_name : (all : List Part) (i : ℕ) (p : Part) (b : Bool) → slice_get all i ≡ Some p → b ≡ is_position i (first_at (has_name (name_of p).text) all)
+    → first_fault (check b (fault.Redefined (name_of p).place) ∷ []) ≡ first_fault (is_new_part (take i all) p ∷ [])
+is_new_name all i p b at is = told b (not (list_any (λ q. same (part_name p) (part_name q)) (take i all))) (fault.Redefined (name_of p).place) (is ∙ first_of_name all i p at)
+
+-- ---- a module
+
+pub module_fails : (parts : List Part) (m : Module) (f : TypeFault) → first_fault (walk_params [] m.params).checks ≡ Some f → first_fault (walk_module parts m).checks ≡ Some f
+module_fails parts m f e = first_fails (walk_params [] m.params).checks (walk_stmts parts (walk_params [] m.params).declares 0 m.body).checks f e
+
+pub module_goes_on : (parts : List Part) (m : Module) → first_fault (walk_params [] m.params).checks ≡ None
+    → first_fault (walk_module parts m).checks ≡ first_fault (walk_stmts parts (walk_params [] m.params).declares 0 m.body).checks
+module_goes_on parts m e = first_passes (walk_params [] m.params).checks (walk_stmts parts (walk_params [] m.params).declares 0 m.body).checks e
+
+-- ---- the parts in order
+
+-- the parts before the i-th have no fault, and their typed functions are these
+pub record GoesOn (all : List Part) (i : ℕ) (words : List (Option TypedWords)) : Type 0 where
+  pub typed : AreTyped (take i all) words
+  pub fault : first_fault (parts_checks all (take i all) (drop i all)) ≡ first_fault (parts_checks all [] all)
+
+pub begins : (all : List Part) → GoesOn all 0 []
+begins all = record { typed = tt; fault = refl }
+
+next_part : (all : List Part) (i : ℕ) (p : Part) → i < length all → p ≡ get_or all i p → drop i all ≡ p ∷ drop (i + 1) all
+next_part all i p within is =
+    let more : suc i ≡ i + 1 = omega arith in
+    drop-cons all i p within ∙ ap (λ (q : Part). q ∷ drop (suc i) all) (sym is) ∙ ap (λ k. p ∷ drop k all) more
+
+taken_part : (all : List Part) (i : ℕ) (p : Part) → i < length all → p ≡ get_or all i p → take (i + 1) all ≡ take i all ++ p ∷ []
+taken_part all i p within is = take_more all i p within ∙ ap (λ (q : Part). take i all ++ q ∷ []) (sym is)
+
+rest_is : (all : List Part) (i : ℕ) (p : Part) → i < length all → p ≡ get_or all i p
+    → first_fault (parts_checks all (take i all) (drop i all))
+    ≡ or_else (first_fault (is_new_part (take i all) p ∷ [])) (or_else (first_fault (part_checks all p)) (first_fault (parts_checks all (take (i + 1) all) (drop (i + 1) all))))
+rest_is all i p within is =
+    let rest : List Check = parts_checks all (take i all ++ p ∷ []) (drop (i + 1) all) in
+    ap (λ (ps : List Part). first_fault (parts_checks all (take i all) ps)) (next_part all i p within is)
+    ∙ fault_append (is_new_part (take i all) p ∷ []) (part_checks all p ++ rest)
+    ∙ ap (or_else (first_fault (is_new_part (take i all) p ∷ []))) (fault_append (part_checks all p) rest
+    ∙ ap (λ (ps : List Part). or_else (first_fault (part_checks all p)) (first_fault (parts_checks all ps (drop (i + 1) all)))) (sym (taken_part all i p within is)))
+
+pub old_name : (all : List Part) (i : ℕ) (p : Part) (ws : List (Option TypedWords)) (f : TypeFault) → i < length all → p ≡ get_or all i p → GoesOn all i ws
+    → first_fault (is_new_part (take i all) p ∷ []) ≡ Some f → first_fault (parts_checks all [] all) ≡ Some f
+old_name all i p ws f within is h e =
+    sym h.fault ∙ rest_is all i p within is
+    ∙ ap (λ (x : Option TypeFault). or_else x (or_else (first_fault (part_checks all p)) (first_fault (parts_checks all (take (i + 1) all) (drop (i + 1) all))))) e
+
+pub bad_part : (all : List Part) (i : ℕ) (p : Part) (ws : List (Option TypedWords)) (f : TypeFault) → i < length all → p ≡ get_or all i p → GoesOn all i ws
+    → first_fault (is_new_part (take i all) p ∷ []) ≡ None → first_fault (part_checks all p) ≡ Some f → first_fault (parts_checks all [] all) ≡ Some f
+bad_part all i p ws f within is h new e =
+    sym h.fault ∙ rest_is all i p within is
+    ∙ ap (λ (x : Option TypeFault). or_else x (or_else (first_fault (part_checks all p)) (first_fault (parts_checks all (take (i + 1) all) (drop (i + 1) all))))) new
+    ∙ ap (λ (x : Option TypeFault). or_else x (first_fault (parts_checks all (take (i + 1) all) (drop (i + 1) all)))) e
+
+pub next : (all : List Part) (i : ℕ) (p : Part) (w : Option TypedWords) (ws vs : List (Option TypedWords)) → i < length all → p ≡ get_or all i p → GoesOn all i ws
+    → first_fault (is_new_part (take i all) p ∷ []) ≡ None → first_fault (part_checks all p) ≡ None → IsTyped p w → vs ≡ ws ++ w ∷ [] → GoesOn all (i + 1) vs
+next all i p w ws vs within is h new fine k pushed = record {
+  typed = subst (λ (ps : List Part). AreTyped ps vs) (sym (taken_part all i p within is))
+      (subst (AreTyped (take i all ++ p ∷ [])) (sym pushed) (typed-push (take i all) ws p w h.typed k));
+  fault = sym (sym h.fault ∙ rest_is all i p within is
+      ∙ ap (λ (x : Option TypeFault). or_else x (or_else (first_fault (part_checks all p)) (first_fault (parts_checks all (take (i + 1) all) (drop (i + 1) all))))) new
+      ∙ ap (λ (x : Option TypeFault). or_else x (first_fault (parts_checks all (take (i + 1) all) (drop (i + 1) all)))) fine);
+}
+
+pub all_typed : (all : List Part) (i : ℕ) (ws : List (Option TypedWords)) → length all ≤ i → GoesOn all i ws → AreTyped all ws
+all_typed all i ws end h = subst (λ (ps : List Part). AreTyped ps ws) (take_all i all end) h.typed
+
+pub all_fine : (all : List Part) (i : ℕ) (ws : List (Option TypedWords)) → length all ≤ i → GoesOn all i ws → first_fault (parts_checks all [] all) ≡ None
+all_fine all i ws end h = sym h.fault ∙ ap (λ (ps : List Part). first_fault (parts_checks all (take i all) ps)) (drop_all i all end)
+
+-- ---- the module `main`
+
+pub main_found : (all : List Part) (i : ℕ) (p : Part) → i < length all → p ≡ get_or all i p → list_any is_main (take i all) ≡ false → is_main p ≡ true
+    → first_at is_main all ≡ Some i
+main_found all i p within is none passes =
+    let c = cut_at all i p (slice_get_read all (length all) i p refl within is) in
+    position_is i (first_at is_main all)
+    (ap (λ (l : List Part). is_position i (first_at is_main l)) (sym c.0)
+    ∙ ap (λ (n : ℕ). is_position n (first_at is_main (take i all ++ p ∷ drop (suc i) all))) (sym c.1)
+    ∙ is_first is_main (take i all) p (drop (suc i) all) passes
+    ∙ ap not none)
+
+-- ---- a whole source
+
+pub source_fails : (source : Source) (f : TypeFault) → first_fault (parts_checks source.parts [] source.parts) ≡ Some f → fault_of source ≡ Some f
+source_fails source f e = first_fails (parts_checks source.parts [] source.parts) (check (list_any is_main source.parts) fault.NoMain ∷ []) f e
+
+pub source_ends : (source : Source) → first_fault (parts_checks source.parts [] source.parts) ≡ None
+    → fault_of source ≡ first_fault (check (list_any is_main source.parts) fault.NoMain ∷ [])
+source_ends source e = first_passes (parts_checks source.parts [] source.parts) (check (list_any is_main source.parts) fault.NoMain ∷ []) e

@@ -1,0 +1,69 @@
+-- Well typed sources, with the typed functions of their classical functions.
+use Rattle.std.specs.Prelude.{◌≡◌, ℕ, Option, Some, None, List, [], ◌∷◌, slice_get, refl}
+use Rattle.std.specs.Coded.{Coded, code_by, coded×, coded_list, coded_option}
+use Rattle.sc_syntax.specs.declared.Source.{Source}
+use Rattle.sc_syntax.specs.declared.Part.{Part}
+use Rattle.sc_syntax.specs.declared.Part.TheVariants as part
+use Rattle.sc_syntax.specs.declared.WordFn.{WordFn}
+use Rattle.sc_syntax.specs.contracts.Source as source_type
+use Rattle.sc_syntax.specs.Formed.{IsFormedSource}
+use Rattle.sc_word.specs.Typed.{TypedWords, TypesFn}
+use Rattle.sc_word.specs.Functions.{typed_words_code}
+use Rattle.sc_types.specs.Positions.{first_at}
+use Rattle.sc_types.specs.Sources.{is_main, fault_of}
+
+-- no check fails
+abbrev pub IsWellTyped : Source → Type 0
+IsWellTyped source = fault_of source ≡ None
+
+-- the position of the module `main`
+abbrev pub main_at : Source → Option ℕ
+main_at source = first_at is_main source.parts
+
+-- a classical function has its typed function, and a module has none
+abbrev pub IsTyped : Part → Option TypedWords → Type 0
+IsTyped (part.Module m) None = Unit {0}
+IsTyped (part.Words f) (Some t) = TypesFn f t
+IsTyped _ _ = ⊥
+
+-- the same part by part
+abbrev pub AreTyped : List Part → List (Option TypedWords) → Type 0
+AreTyped [] [] = Unit {0}
+AreTyped (p ∷ ps) (w ∷ ws) = IsTyped p w × AreTyped ps ws
+AreTyped _ _ = ⊥
+
+-- a source, and for each of its parts the typed function where it has one
+pub record TypedSource : Type 0 where
+  pub source : Source
+  pub words : List (Option TypedWords)
+
+abbrev pub typed_source : Source → List (Option TypedWords) → TypedSource
+typed_source source words = record { source = source; words = words }
+
+abbrev pub typed_source_code : Coded TypedSource
+typed_source_code =
+    code_by (Source × List (Option TypedWords)) (coded× source_type.the_row.coded (coded_list (coded_option typed_words_code)))
+    (λ t. (t.source, t.words)) (λ p. typed_source p.0 p.1) (λ _. refl)
+
+-- what every checked source keeps
+pub record IsChecked (t : TypedSource) (main : ℕ) : Type 0 where
+  pub formed : IsFormedSource t.source
+  pub well_typed : IsWellTyped t.source
+  pub words : AreTyped t.source.parts t.words
+  pub main_is : main_at t.source ≡ Some main
+
+-- the classical function at a position
+abbrev pub function_at : Source → ℕ → Option WordFn
+function_at source i = function_of (slice_get source.parts i)
+  where
+    function_of : Option Part → Option WordFn
+    function_of (Some (part.Words f)) = Some f
+    function_of _ = None
+
+abbrev pub flat : Option (Option TypedWords) → Option TypedWords
+flat (Some word) = word
+flat None = None
+
+-- the typed function at a position
+abbrev pub typed_at : List (Option TypedWords) → ℕ → Option TypedWords
+typed_at words i = flat (slice_get words i)

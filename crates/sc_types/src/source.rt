@@ -1,0 +1,55 @@
+//! Whole sources.
+ghost use Rattle.std.specs.Prelude.{◌≡◌, ◌≢◌, ◌≤◌, [], ◌∷◌, None, Some, OnOk, IfOk, IfErr, length};
+ghost use Rattle.std.specs.Result.{result_err};
+ghost use Rattle.std.specs.List.{list_any};
+ghost use Rattle.sc_syntax.specs.Formed.{IsFormedSource};
+ghost use Rattle.sc_syntax.specs.FormedWords.{max_items};
+ghost use Rattle.sc_types.specs.Checks.{check as one_check, first_fault};
+ghost use Rattle.sc_types.specs.Positions.{first_at};
+ghost use Rattle.sc_types.specs.Sources.{is_main as is_main_part, fault_of};
+
+use crate::checked::Checked;
+use crate::fault::TypeFault;
+use crate::parts::check_parts;
+use sc_syntax::{Part, Source};
+use std::alloc::Global;
+
+fn is_main(part: &Part) -> bool
+    ensures { result ≡ is_main_part part.now }
+{
+    match part {
+        Part::Module(named) => {
+            named.name.text.as_bytes() == b"main".as_slice() && named.params.is_empty()
+        }
+        Part::Words(_) => false,
+    }
+}
+
+/// The position of the module `main` without parameters.
+fn main_of(parts: &[Part]) -> Result<u32, TypeFault>
+    requires { length parts.now ≤ max_items }
+    ensures main { IfOk result (λ i. first_at is_main_part parts.now ≡ Some i) }
+    ensures fault { result_err result ≡ first_fault (one_check (list_any is_main_part parts.now) TypeFault.NoMain ∷ []) }
+{
+    for (i, part) in parts.iter().enumerate() {
+        if is_main(part) {
+            return Ok(i as u32);
+        }
+    }
+    Err(TypeFault::NoMain)
+}
+
+/// Checks the names, kinds and widths of a formed source. The fault that comes first in the order of the
+/// text is answered, with its place; `NoMain` comes after all others, and has none. Every refusal comes
+/// exactly where it is that first fault, but `Memory`, which comes where no memory is left. The source is
+/// dropped on a refusal.
+pub fn check(alloc: Global, source: Source) -> Result<Checked, TypeFault>
+    requires { IsFormedSource source }
+    ensures source { IfOk result (λ c. c.source ≡ source) }
+    ensures none { OnOk result (fault_of source ≡ None) }
+    ensures fault { IfErr result (λ f. f ≢ TypeFault.Memory → fault_of source ≡ Some f) }
+{
+    let words = check_parts(alloc, source.parts.as_slice())?;
+    let main = main_of(source.parts.as_slice())?;
+    Ok(Checked::new(source, words, main))
+}
