@@ -1,11 +1,10 @@
 //! The expressions of classical functions.
 ghost use Rattle.std.specs.Prelude.{◌≡◌, ◌≤◌, [], ◌∷◌, length, drop, MatchResult};
 
-use crate::make;
-use crate::make_words;
 use crate::operators::{SHIFTS, shift, word_binary, word_level_marks};
 use crate::reader::{Fault, Reader};
 use crate::terminal::Terminal;
+use crate::{make, make_words};
 use sc_base::{List, Place};
 use sc_syntax::{Mark, Token, WordExpr, WordLink, WordNode, WordOp};
 

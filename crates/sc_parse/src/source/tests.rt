@@ -99,7 +99,11 @@ const SOURCES: [(&str, Answer); 29] = [
 #[test]
 fn sources_are_accepted_or_refused_at_their_place(rt: HostRuntime) -> Result<(), Fail> {
     for (text, expected) in SOURCES {
-        assert_eq!(rt; answer_to(&rt, rt.alloc(), text.as_bytes())?, expected, "{text}");
+        assert_eq!(rt;
+            answer_to(&rt, rt.alloc(), text.as_bytes())?,
+            expected,
+            "{text}"
+        );
     }
     Ok(())
 }
