@@ -20,3 +20,9 @@ pub mod WordChains
 pub mod Resizes
 pub mod Sorts
 pub mod Choices
+pub mod FormedTrees
+pub mod FormedParts
+pub mod FormedChains
+pub mod FormedSteps
+pub mod FormedPhrases
+pub mod FormedSources

@@ -13,7 +13,7 @@ use Rattle.sc_syntax.specs.declared.Word.{Word}
 use Rattle.sc_syntax.specs.declared.Word.TheVariants as w
 use Rattle.sc_parse.specs.declared.terminal.Terminal.{Terminal}
 use Rattle.sc_parse.specs.declared.terminal.Terminal.TheVariants.{Main, Ext, Low, Other, Gate, Measuring}
-use Rattle.sc_parse.specs.Terminals.{kind_of, name_kind, gate_kind, takes_mark, takes_word, mark_number, word_number, is_int, is_decimal, is_gate, is_measuring, is_plain, is_ext, is_low}
+use Rattle.sc_parse.specs.Terminals.{kind_of, name_kind, gate_kind, takes_mark, takes_word, mark_number, word_number, is_int, is_decimal, is_gate, is_measuring, is_name, is_plain, is_main, is_ext, is_low}
 use Rattle.sc_parse.proofs.Bools.{clash}
 
 abbrev item : {X : Type 0} → ℕ → List X → Option X
@@ -181,6 +181,24 @@ low_sort sort.Name text e = refl
 low_sort (sort.Int n) text e = cc
 low_sort (sort.Decimal d) text e = cc
 low_sort (sort.Mark v) text e = cc
+
+-- any name
+pub name_sort : (s : TokenSort) (text : List ℕ) → is_name (kind_of s text) ≡ true → s ≡ sort.Name
+name_sort (sort.Word v) text e = cc
+name_sort (sort.Gate g) text e = absurd (clash _ e (gate_cases is_name refl refl g))
+name_sort sort.Name text e = refl
+name_sort (sort.Int n) text e = cc
+name_sort (sort.Decimal d) text e = cc
+name_sort (sort.Mark v) text e = cc
+
+-- the name `main`
+pub main_sort : (s : TokenSort) (text : List ℕ) → is_main (kind_of s text) ≡ true → s ≡ sort.Name
+main_sort (sort.Word v) text e = cc
+main_sort (sort.Gate g) text e = absurd (clash _ e (gate_cases is_main refl refl g))
+main_sort sort.Name text e = refl
+main_sort (sort.Int n) text e = cc
+main_sort (sort.Decimal d) text e = cc
+main_sort (sort.Mark v) text e = cc
 
 -- a mark
 pub mark_sort : (k : Mark) (s : TokenSort) (text : List ℕ) → takes_mark k (kind_of s text) ≡ true → s ≡ sort.Mark k

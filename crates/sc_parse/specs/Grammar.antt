@@ -1,8 +1,9 @@
 -- Sources: tokens in the grammar, and where they leave it.
-use Rattle.std.specs.Prelude.{◌≡◌, ℕ, zero, suc, ◌+◌, ◌≤◌, ◌<◌, ◌==◌, not, length, take, List, [], ◌∷◌, ◌++◌, reverse, count_by, take_while}
+use Rattle.std.specs.Prelude.{◌≡◌, ℕ, zero, suc, ◌+◌, ◌≤◌, ◌<◌, length, take, List, [], ◌∷◌, ◌++◌}
 use Rattle.sc_base.specs.declared.Place.{Place}
 use Rattle.sc_syntax.specs.declared.Token.{Token}
 use Rattle.sc_syntax.specs.declared.Source.{Source}
+use Rattle.sc_syntax.specs.Lexing.{place_after}
 use Rattle.sc_parse.specs.declared.source.ParseFault.{ParseFault}
 use Rattle.sc_parse.specs.declared.source.ParseFault.TheVariants.{Syntax, TooNested, Memory}
 use Rattle.sc_parse.specs.Rules.{source}
@@ -45,16 +46,9 @@ pub record IsTooNested (ts : List Piece) (p : ℕ) : Type 0 where
   pub there : (xs : List Marked) × (x : Marked) × (bare (xs ++ x ∷ []) ≡ take (p + 1) ts) × Front source 0 (xs ++ x ∷ []) × IsShallow xs × (most_nested < x.depth)
   pub not_accepted : IsAccepted ts → ⊥
 
--- the place after the last byte
-abbrev pub end_place : List ℕ → Place
-end_place text = record {
-  line = count_by (λ c. c == 10) text + 1;
-  column = length (take_while (λ c. not (c == 10)) (reverse text)) + 1;
-}
-
--- the place of the token at p, or of the end
+-- the place of the token at p, or behind the last byte
 abbrev pub place_at : List ℕ → List Token → ℕ → Place
-place_at text [] p = end_place text
+place_at text [] p = place_after text
 place_at text (t ∷ ts) zero = t.place
 place_at text (t ∷ ts) (suc p) = place_at text ts p
 

@@ -16,17 +16,6 @@ use sc_base::{List, Place, Text};
 use sc_syntax::{ShiftLink, Token, TokenSort, Width, WordExpr, WordLink, WordNode};
 use std::alloc::Global;
 
-/// Adds a link at the end.
-pub fn push(links: &mut Vec<WordLink>, link: WordLink) -> Result<(), Fault>
-    ensures ok { OnOk result (links.new.items ≡ links.old.items ++ link ∷ []) }
-    ensures err { IfErr result (λ e. e ≡ Fault.Memory) }
-{
-    match links.push(link) {
-        Ok(()) => Ok(()),
-        Err(_) => Err(Fault::Memory),
-    }
-}
-
 /// Adds a shift at the end.
 pub fn push_shift(links: &mut List<ShiftLink>, left: bool, by: Width) -> Result<(), Fault>
     ensures ok { OnOk result ((l : ShiftLink) × (l.left ≡ left) × (l.by ≡ by) × (links.new ≡ links.old ++ l ∷ [])) }

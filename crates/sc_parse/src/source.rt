@@ -1,7 +1,9 @@
 //! Sources.
 ghost use Rattle.std.specs.Prelude.{◌≡◌, ℕ, ◌+◌, ◌<◌, ◌≤◌, ◌++◌, ◌∷◌, List, [], length, IfOk, IfErr, OnOk, MatchResult};
+ghost use Rattle.sc_syntax.specs.Formed.{IsFormedSource};
+ghost use Rattle.sc_syntax.specs.Lexing.{place_after};
 ghost use Rattle.sc_syntax.specs.TokenLists.{AreRead};
-ghost use Rattle.sc_parse.specs.Grammar.{HasOneNesting, IsAccepted, IsFault, IsTreeOf, end_place, place_at};
+ghost use Rattle.sc_parse.specs.Grammar.{HasOneNesting, IsAccepted, IsFault, IsTreeOf, place_at};
 ghost use Rattle.sc_parse.specs.Pieces.{pieces};
 
 use crate::make;
@@ -21,7 +23,9 @@ pub enum ParseFault {
     Memory,
 }
 
-/// The tree of a source of at most 16,777,216 bytes, from its tokens.
+/// The tree of a source of at most 16,777,216 bytes, from its tokens, as `lex` of `sc_syntax` answers them. It is
+/// formed: names are names, numbers are at least 0, a chain holds operators of one level, and no list has more than
+/// 4,194,304 items.
 ///
 /// It is refused as `Syntax` at the first token with which the tokens begin no source, or at the end of the text
 /// where they begin one and are none, and as `TooNested` at the first token that is nested deeper than 128, which
@@ -31,6 +35,7 @@ pub fn parse(alloc: Global, source: &[u8], tokens: &Tokens) -> Result<Source, Pa
     requires size { length source.now ≤ 16777216 }
     ensures accepted { OnOk result (IsAccepted (pieces source.now tokens.now)) }
     ensures derives { IfOk result (IsTreeOf source.now tokens.now) }
+    ensures formed { IfOk result IsFormedSource }
     ensures refused { IfErr result (IsFault source.now tokens.now) }
     ensures one_nesting { HasOneNesting }
 {
@@ -63,7 +68,7 @@ fn place(source: &[u8], tokens: &[Token], at: usize) -> Place
 fn next_place(at: Place, byte: u8) -> Place
     requires line { at.line < 4_000_000_000 }
     requires column { at.column < 4_000_000_000 }
-    ensures value { (before : List ℕ) → at ≡ end_place before → result ≡ end_place (before ++ byte ∷ []) }
+    ensures value { (before : List ℕ) → at ≡ place_after before → result ≡ place_after (before ++ byte ∷ []) }
     ensures line { result.line ≤ at.line + 1 }
     ensures column { result.column ≤ at.column + 1 }
 {
@@ -83,7 +88,7 @@ fn next_place(at: Place, byte: u8) -> Place
 /// The place after the last byte.
 fn end(source: &[u8]) -> Place
     requires { length source.now ≤ 16777216 }
-    ensures { result ≡ end_place source.now }
+    ensures { result ≡ place_after source.now }
 {
     let mut place = Place { line: 1, column: 1 };
     for byte in source {

@@ -1,6 +1,7 @@
 //! The expressions of classical functions.
 ghost use Rattle.std.specs.Prelude.{◌≡◌, ◌≤◌, [], ◌∷◌, length, drop, MatchResult};
 
+use crate::make;
 use crate::make_words;
 use crate::operators::{SHIFTS, shift, word_binary, word_level_marks};
 use crate::reader::{Fault, Reader};
@@ -163,7 +164,7 @@ impl Reader<'_> {
         'links: while self.is_word_operator(*at, level) {
             let (op, place) = self.word_operator(at, depth, level)?;
             let right = self.word_operand(at, depth, level)?;
-            make_words::push(&mut links, WordLink { op, place, right })?;
+            make::push_vec(&mut links, WordLink { op, place, right })?;
         }
         if links.is_empty() {
             return Ok(first);

@@ -4,7 +4,7 @@ use std::alloc::Global;
 use std::process::Abort;
 use std::test::Fail;
 
-/// What `parse` answers for a text.
+/// What `parse` answers for a source.
 #[derive(Clone, Copy, Debug, PartialEq, Eq)]
 enum Answer {
     Accepted,
@@ -13,8 +13,7 @@ enum Answer {
     Memory,
 }
 
-fn answer_to(rt: &impl Abort, alloc: Global, text: &str) -> Result<Answer, Fail> {
-    let source = text.as_bytes();
+fn answer_to(rt: &impl Abort, alloc: Global, source: &[u8]) -> Result<Answer, Fail> {
     assert!(rt; source.len() <= 16_777_216);
     let tokens = lex(alloc, source)?;
     Ok(match parse(alloc, source, &tokens) {
@@ -25,7 +24,8 @@ fn answer_to(rt: &impl Abort, alloc: Global, text: &str) -> Result<Answer, Fail>
     })
 }
 
-const BELL: &str = "int main() { qbit q[2]; H(q[0]); CNOT(q[0], q[1]); }";
+/// Ends with main's closing brace.
+const BELL: &str = "int main() { qbit q[2]; H(q[0]); CNOT(q[0],q[1]); return 0; }";
 
 /// Sources, and what the parser answers.
 const SOURCES: [(&str, Answer); 29] = [
@@ -99,7 +99,7 @@ const SOURCES: [(&str, Answer); 29] = [
 #[test]
 fn sources_are_accepted_or_refused_at_their_place(rt: HostRuntime) -> Result<(), Fail> {
     for (text, expected) in SOURCES {
-        assert_eq!(rt; answer_to(&rt, rt.alloc(), text)?, expected, "{text}");
+        assert_eq!(rt; answer_to(&rt, rt.alloc(), text.as_bytes())?, expected, "{text}");
     }
     Ok(())
 }
@@ -116,7 +116,25 @@ fn parentheses_nest_to_128(rt: HostRuntime) -> Result<(), Fail> {
             text.push_str(")")?;
         }
         text.push_str("; }")?;
-        assert_eq!(rt; answer_to(&rt, rt.alloc(), text.as_str())?, expected);
+        assert_eq!(rt; answer_to(&rt, rt.alloc(), text.as_bytes())?, expected);
+    }
+    Ok(())
+}
+
+#[test]
+fn beginnings_without_the_closing_brace_are_refused_at_their_end(
+    rt: HostRuntime,
+) -> Result<(), Fail> {
+    let source = BELL.as_bytes();
+    assert!(rt; source.len() <= 1000);
+    let tokens = lex(rt.alloc(), source)?;
+    let tokens = tokens.as_slice();
+    assert_eq!(rt; tokens.len(), 36);
+    for token in tokens.iter().take(tokens.len() - 1) {
+        let end = token.end as usize;
+        assert!(rt; end < source.len());
+        let expected = Answer::Syntax(1, token.end + 1);
+        assert_eq!(rt; answer_to(&rt, rt.alloc(), &source[..end])?, expected);
     }
     Ok(())
 }

@@ -1,5 +1,9 @@
+use Rattle.sc_parse.proofs.FormedSources.{source_formed}
 use Rattle.sc_parse.proofs.Unique.{one_nesting}
 use Rattle.sc_parse.proofs.source.parse.Goals as goal
+
+pub returns-in-Ok-clause-formed : goal.returns-in-Ok-clause-formed
+returns-in-Ok-clause-formed c = source_formed c.args.source.now c.args.tokens.now c.in-Ok.tree c.requires.read (rw c.as_slice-tokens.ensures at c.in-Ok.ensures.derives)
 
 pub returns-in-Ok-clause-one_nesting : goal.returns-in-Ok-clause-one_nesting
 returns-in-Ok-clause-one_nesting c = one_nesting

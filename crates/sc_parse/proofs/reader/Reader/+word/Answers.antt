@@ -63,13 +63,13 @@ word_chain-returns-in_err-right t c =
     let p = err_from_is_err_and c.from_residual-in_err-right.result c.from_residual-in_err-right.ensures.1 in let b0 = sym c.is_word_operator.ensures ∙ c.links-test.true in let b = link_begins c.args.level _ ∙ b0 in
     rw (p.1, p.2) (fails_chain c.args.level (fails_second c.in_ok-first.ensures (repeats_not _ _ _ _ _ _ _ c.links.invariant.repeated b (fails_second c.in_ok-op.ensures.takes.reads (c.in_err-right.ensures)))))
 
-pub word_chain-returns-in_err-push : goal.word_chain-returns-in_err-push
-word_chain-returns-in_err-push t c =
-    let p = err_from_is_err_and c.from_residual-in_err-push.result c.from_residual-in_err-push.ensures.1 in
-    rw (p.1, p.2, c.in_err-push.ensures.err) (record { why = tt })
+pub word_chain-returns-in_err-push_vec : goal.word_chain-returns-in_err-push_vec
+word_chain-returns-in_err-push_vec t c =
+    let p = err_from_is_err_and c.from_residual-in_err-push_vec.result c.from_residual-in_err-push_vec.ensures.1 in
+    rw (p.1, p.2, c.in_err-push_vec.ensures.err) (record { why = tt })
 
 pub word_chain-links-preserved : goal.word_chain-links-preserved
-word_chain-links-preserved t c = let b0 = sym c.is_word_operator.ensures ∙ c.links-test.true in let b = link_begins c.args.level _ ∙ b0 in chained_more _ _ _ _ _ _ _ _ _ (record { op = c.in_ok-op.op; place = c.in_ok-op.place; right = c.in_ok-right.right }) c.links.invariant b c.in_ok-op.ensures c.in_ok-right.ensures c.in_ok-push.ensures.ok
+word_chain-links-preserved t c = let b0 = sym c.is_word_operator.ensures ∙ c.links-test.true in let b = link_begins c.args.level _ ∙ b0 in chained_more _ _ _ _ _ _ _ _ _ (record { op = c.in_ok-op.op; place = c.in_ok-op.place; right = c.in_ok-right.right }) c.links.invariant b c.in_ok-op.ensures c.in_ok-right.ensures c.in_ok-push_vec.ensures.ok
 
 pub word_chain-returns-then-is_empty : goal.word_chain-returns-then-is_empty
 word_chain-returns-then-is_empty t c = let b0 = sym c.is_word_operator.ensures ∙ c.links-test.false in let b = link_begins c.args.level _ ∙ b0 in chained_none c.args.level _ _ _ _ _ _ _ c.in_ok-first.ensures c.links.invariant b (grind (arith, common_steps))
