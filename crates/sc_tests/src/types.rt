@@ -1,148 +1,279 @@
 //! The first fault of sources, and what is told of a checked one.
-use sc_base::Place;
 use sc_parse::parse;
 use sc_syntax::lex;
 use sc_types::{Checked, TypeFault, check};
-use std::alloc::Global;
+use std::alloc::{AllocError, Global};
 use std::process::Abort;
 use std::test::Fail;
 
-const fn unknown_name(column: u32) -> TypeFault {
-    TypeFault::UnknownName(Place { line: 1, column })
-}
-
-const fn redefined(column: u32) -> TypeFault {
-    TypeFault::Redefined(Place { line: 1, column })
-}
-
-const fn wrong_kind(column: u32) -> TypeFault {
-    TypeFault::WrongKind(Place { line: 1, column })
-}
-
-const fn wrong_count(column: u32) -> TypeFault {
-    TypeFault::WrongCount(Place { line: 1, column })
-}
-
-const fn measured_use(column: u32) -> TypeFault {
-    TypeFault::MeasuredUse(Place { line: 1, column })
-}
-
-const fn bad_width(column: u32) -> TypeFault {
-    TypeFault::BadWidth(Place { line: 1, column })
-}
-
 /// Names that are unknown, or declared a second time.
-const FAULTS_OF_NAMES: [(&str, TypeFault); 24] = [
-    ("int main() { qbit q; H(r); }", unknown_name(24)),
-    ("int main() { f(); }", unknown_name(14)),
-    ("int main() { int x = y; }", unknown_name(22)),
-    ("int main() { x = 1; }", unknown_name(14)),
-    ("int main() { qbit q; c = MeasZ(q); }", unknown_name(22)),
-    ("int main() { H(r[0]); }", unknown_name(16)),
-    ("int main() { int x = x; }", unknown_name(22)),
-    ("int main() { { int x; } x = 1; }", unknown_name(25)),
-    ("int main() { if (1) int x; x = 1; }", unknown_name(28)),
-    ("int main() { for (int i = 0; i < 2; i++) ; i = 1; }", unknown_name(44)),
-    ("module m(qbit a[n]) { } int main() { }", unknown_name(17)),
-    ("module m(qbit a[n], double n) { } int main() { }", unknown_name(17)),
-    ("classical f(a) : 1 { return M_PI; } int main() { }", unknown_name(29)),
-    ("int main() { int x; qbit x; }", redefined(26)),
-    ("int main() { qbit q, q; }", redefined(22)),
-    ("int main() { qbit q; qbit q[1]; }", redefined(27)),
-    ("module m(int n, qbit n) { } int main() { }", redefined(22)),
-    ("module m(int n) { int n; } int main() { }", redefined(23)),
-    ("int main() { for (int i = 0, i = 1; i < 2; i++) ; }", redefined(30)),
-    ("module m() { } module m() { } int main() { }", redefined(23)),
-    ("classical f(a) : 1 { return a; } module f() { } int main() { }", redefined(41)),
-    ("int main() { } int main() { }", redefined(20)),
-    ("classical f(a, a) : 1 { return a; } int main() { }", redefined(16)),
-    ("classical f(a) : 1 { a = a; return a; } int main() { }", redefined(22)),
+const FAULTS_OF_NAMES: [(&str, &str); 24] = [
+    ("int main() { qbit q; H(r); }", "1:24: UnknownName"),
+    ("int main() { f(); }", "1:14: UnknownName"),
+    ("int main() { int x = y; }", "1:22: UnknownName"),
+    ("int main() { x = 1; }", "1:14: UnknownName"),
+    ("int main() { qbit q; c = MeasZ(q); }", "1:22: UnknownName"),
+    ("int main() { H(r[0]); }", "1:16: UnknownName"),
+    ("int main() { int x = x; }", "1:22: UnknownName"),
+    ("int main() { { int x; } x = 1; }", "1:25: UnknownName"),
+    ("int main() { if (1) int x; x = 1; }", "1:28: UnknownName"),
+    (
+        "int main() { for (int i = 0; i < 2; i++) ; i = 1; }",
+        "1:44: UnknownName",
+    ),
+    (
+        "module m(qbit a[n]) { } int main() { }",
+        "1:17: UnknownName",
+    ),
+    (
+        "module m(qbit a[n], double n) { } int main() { }",
+        "1:17: UnknownName",
+    ),
+    (
+        "classical f(a) : 1 { return M_PI; } int main() { }",
+        "1:29: UnknownName",
+    ),
+    ("int main() { int x; qbit x; }", "1:26: Redefined"),
+    ("int main() { qbit q, q; }", "1:22: Redefined"),
+    ("int main() { qbit q; qbit q[1]; }", "1:27: Redefined"),
+    (
+        "module m(int n, qbit n) { } int main() { }",
+        "1:22: Redefined",
+    ),
+    (
+        "module m(int n) { int n; } int main() { }",
+        "1:23: Redefined",
+    ),
+    (
+        "int main() { for (int i = 0, i = 1; i < 2; i++) ; }",
+        "1:30: Redefined",
+    ),
+    (
+        "module m() { } module m() { } int main() { }",
+        "1:23: Redefined",
+    ),
+    (
+        "classical f(a) : 1 { return a; } module f() { } int main() { }",
+        "1:41: Redefined",
+    ),
+    ("int main() { } int main() { }", "1:20: Redefined"),
+    (
+        "classical f(a, a) : 1 { return a; } int main() { }",
+        "1:16: Redefined",
+    ),
+    (
+        "classical f(a) : 1 { a = a; return a; } int main() { }",
+        "1:22: Redefined",
+    ),
 ];
 
 /// Names and expressions of another kind than what is needed.
-const FAULTS_OF_KINDS: [(&str, TypeFault); 40] = [
-    ("int main() { cbit c; if (c) { } }", measured_use(26)),
-    ("int main() { cbit c[2]; int x = c; }", measured_use(33)),
-    ("int main() { cbit c; int x = c[0]; }", measured_use(30)),
-    ("int main() { cbit c; int x = (c); }", measured_use(31)),
-    ("int main() { qbit q; int x = q; }", wrong_kind(30)),
-    ("int main() { qbit q; int x = (q); }", wrong_kind(31)),
-    ("int main() { int n; int x = n[0]; }", wrong_kind(29)),
-    ("int main() { int x = M_PI[0]; }", wrong_kind(22)),
-    ("int main() { int x; H(x); }", wrong_kind(23)),
-    ("int main() { cbit c; H(c); }", wrong_kind(24)),
-    ("int main() { qbit q; H((q)); }", wrong_kind(24)),
-    ("int main() { qbit q[2]; H(q); }", wrong_kind(27)),
-    ("int main() { qbit q; H(q[0]); }", wrong_kind(24)),
-    ("module m(qbit a[]) { } int main() { qbit q; m(q); }", wrong_kind(47)),
-    ("module m(qbit *a) { } int main() { qbit q[2]; m(q[0]); }", wrong_kind(49)),
-    ("module m(qbit a[]) { } int main() { qbit q[2]; m(q[zz]); }", wrong_kind(50)),
-    ("classical f(a) : 1 { return a; } int main() { qbit q; cbit c; f(q, c); }", wrong_kind(68)),
-    ("int main() { qbit q; q = 1; }", wrong_kind(22)),
-    ("int main() { qbit q; int x; x = MeasZ(q); }", wrong_kind(29)),
-    ("int main() { cbit c; c = MeasZ(c); }", wrong_kind(32)),
-    ("int main() { M_PI = 1; }", wrong_kind(14)),
-    ("int main() { int x; x = 1.5; }", wrong_kind(21)),
-    ("int main() { int x; x += 1.5; }", wrong_kind(21)),
-    ("int main() { double x; x %= 2; }", wrong_kind(26)),
-    ("int main() { int x = (1.5); }", wrong_kind(22)),
-    ("int main() { qbit q[1.5]; }", wrong_kind(21)),
-    ("int main() { qbit q[2]; H(q[1.5]); }", wrong_kind(29)),
-    ("module m(qbit a[1.5]) { } int main() { }", wrong_kind(17)),
-    ("module m(qbit a[M_PI]) { } int main() { }", wrong_kind(17)),
-    ("module m(int n) { } int main() { m(1.5); }", wrong_kind(36)),
-    ("int main() { qbit q; PrepX(q, 1.5); }", wrong_kind(31)),
-    ("int main() { int x = 1.5 % 2; }", wrong_kind(26)),
-    ("int main() { double x = 1 << 1.5; }", wrong_kind(27)),
-    ("int main() { double x = 1.5 >> 1; }", wrong_kind(29)),
-    ("int main() { int x = 1.5 % 2 % zz; }", wrong_kind(26)),
-    ("int main() { qbit q; CNOT(q); }", wrong_count(22)),
-    ("int main() { qbit q; cbit c; MeasZ(q, c); }", wrong_count(30)),
-    ("int main() { qbit q; PrepX(q, 1, 2); }", wrong_count(22)),
-    ("module m(int n) { } int main() { m(); }", wrong_count(34)),
-    ("classical f(a) : 1 { return a; } int main() { qbit q; f(q); }", wrong_count(55)),
+const FAULTS_OF_KINDS: [(&str, &str); 40] = [
+    ("int main() { cbit c; if (c) { } }", "1:26: MeasuredUse"),
+    ("int main() { cbit c[2]; int x = c; }", "1:33: MeasuredUse"),
+    ("int main() { cbit c; int x = c[0]; }", "1:30: MeasuredUse"),
+    ("int main() { cbit c; int x = (c); }", "1:31: MeasuredUse"),
+    ("int main() { qbit q; int x = q; }", "1:30: WrongKind"),
+    ("int main() { qbit q; int x = (q); }", "1:31: WrongKind"),
+    ("int main() { int n; int x = n[0]; }", "1:29: WrongKind"),
+    ("int main() { int x = M_PI[0]; }", "1:22: WrongKind"),
+    ("int main() { int x; H(x); }", "1:23: WrongKind"),
+    ("int main() { cbit c; H(c); }", "1:24: WrongKind"),
+    ("int main() { qbit q; H((q)); }", "1:24: WrongKind"),
+    ("int main() { qbit q[2]; H(q); }", "1:27: WrongKind"),
+    ("int main() { qbit q; H(q[0]); }", "1:24: WrongKind"),
+    (
+        "module m(qbit a[]) { } int main() { qbit q; m(q); }",
+        "1:47: WrongKind",
+    ),
+    (
+        "module m(qbit *a) { } int main() { qbit q[2]; m(q[0]); }",
+        "1:49: WrongKind",
+    ),
+    (
+        "module m(qbit a[]) { } int main() { qbit q[2]; m(q[zz]); }",
+        "1:50: WrongKind",
+    ),
+    (
+        "classical f(a) : 1 { return a; } int main() { qbit q; cbit c; f(q, c); }",
+        "1:68: WrongKind",
+    ),
+    ("int main() { qbit q; q = 1; }", "1:22: WrongKind"),
+    (
+        "int main() { qbit q; int x; x = MeasZ(q); }",
+        "1:29: WrongKind",
+    ),
+    ("int main() { cbit c; c = MeasZ(c); }", "1:32: WrongKind"),
+    ("int main() { M_PI = 1; }", "1:14: WrongKind"),
+    ("int main() { int x; x = 1.5; }", "1:21: WrongKind"),
+    ("int main() { int x; x += 1.5; }", "1:21: WrongKind"),
+    ("int main() { double x; x %= 2; }", "1:26: WrongKind"),
+    ("int main() { int x = (1.5); }", "1:22: WrongKind"),
+    ("int main() { qbit q[1.5]; }", "1:21: WrongKind"),
+    ("int main() { qbit q[2]; H(q[1.5]); }", "1:29: WrongKind"),
+    (
+        "module m(qbit a[1.5]) { } int main() { }",
+        "1:17: WrongKind",
+    ),
+    (
+        "module m(qbit a[M_PI]) { } int main() { }",
+        "1:17: WrongKind",
+    ),
+    (
+        "module m(int n) { } int main() { m(1.5); }",
+        "1:36: WrongKind",
+    ),
+    ("int main() { qbit q; PrepX(q, 1.5); }", "1:31: WrongKind"),
+    ("int main() { int x = 1.5 % 2; }", "1:26: WrongKind"),
+    ("int main() { double x = 1 << 1.5; }", "1:27: WrongKind"),
+    ("int main() { double x = 1.5 >> 1; }", "1:29: WrongKind"),
+    ("int main() { int x = 1.5 % 2 % zz; }", "1:26: WrongKind"),
+    ("int main() { qbit q; CNOT(q); }", "1:22: WrongCount"),
+    (
+        "int main() { qbit q; cbit c; MeasZ(q, c); }",
+        "1:30: WrongCount",
+    ),
+    ("int main() { qbit q; PrepX(q, 1, 2); }", "1:22: WrongCount"),
+    (
+        "module m(int n) { } int main() { m(); }",
+        "1:34: WrongCount",
+    ),
+    (
+        "classical f(a) : 1 { return a; } int main() { qbit q; f(q); }",
+        "1:55: WrongCount",
+    ),
 ];
 
 /// Widths that do not fit.
-const FAULTS_OF_WIDTHS: [(&str, TypeFault); 25] = [
-    ("classical f(a[4], c) : 4 { return a + c; } int main() { }", bad_width(35)),
-    ("classical f(a) : 1 { return 1 + 2; } int main() { }", bad_width(29)),
-    ("classical f(a) : 1 { return a ? 0 : 1; } int main() { }", bad_width(29)),
-    ("classical f(a) : 1 { t = 5; return a; } int main() { }", bad_width(26)),
-    ("classical f(a) : 1 { return ~5; } int main() { }", bad_width(30)),
-    ("classical f(a) : 1 { return 5 << 1; } int main() { }", bad_width(29)),
-    ("classical f(a) : 1 { return low(5, 2); } int main() { }", bad_width(33)),
-    ("classical f(a[4]) : 4 { return a + 16; } int main() { }", bad_width(36)),
-    ("classical f(a[4]) : 4 { return (16) & a; } int main() { }", bad_width(32)),
-    ("classical f(a[4]) : 4 { return a ? a : a; } int main() { }", bad_width(32)),
-    ("classical f(a[4]) : 4 { return 2 ? a : a; } int main() { }", bad_width(32)),
-    ("classical f(a[4]) : 1 { return a; } int main() { }", bad_width(32)),
-    ("classical f(a) : 1 { return 2; } int main() { }", bad_width(29)),
-    ("classical f(a[33]) : 33 { return a * a; } int main() { }", bad_width(34)),
-    ("classical f(a[4]) : 4 { return ext(a, 3); } int main() { }", bad_width(39)),
-    ("classical f(a) : 1 { return ext(a, 0); } int main() { }", bad_width(36)),
-    ("classical f(a) : 1 { return ext(a, 65); } int main() { }", bad_width(36)),
-    ("classical f(a[4]) : 5 { return low(a, 5); } int main() { }", bad_width(39)),
-    ("classical f(a[4]) : 4 { return low(a, 0); } int main() { }", bad_width(39)),
-    ("classical f(a[0]) : 1 { return 0; } int main() { }", bad_width(15)),
-    ("classical f(a[65]) : 1 { return 0; } int main() { }", bad_width(15)),
-    ("classical f(a) : 0 { return 0; } int main() { }", bad_width(18)),
-    ("classical f(a) : 65 { return 0; } int main() { }", bad_width(18)),
-    ("classical f(a) : 1 { return a << 65; } int main() { }", bad_width(34)),
-    ("classical f(a[3]) : 3 { return a + 9 + zz; } int main() { }", bad_width(36)),
+const FAULTS_OF_WIDTHS: [(&str, &str); 25] = [
+    (
+        "classical f(a[4], c) : 4 { return a + c; } int main() { }",
+        "1:35: BadWidth",
+    ),
+    (
+        "classical f(a) : 1 { return 1 + 2; } int main() { }",
+        "1:29: BadWidth",
+    ),
+    (
+        "classical f(a) : 1 { return a ? 0 : 1; } int main() { }",
+        "1:29: BadWidth",
+    ),
+    (
+        "classical f(a) : 1 { t = 5; return a; } int main() { }",
+        "1:26: BadWidth",
+    ),
+    (
+        "classical f(a) : 1 { return ~5; } int main() { }",
+        "1:30: BadWidth",
+    ),
+    (
+        "classical f(a) : 1 { return 5 << 1; } int main() { }",
+        "1:29: BadWidth",
+    ),
+    (
+        "classical f(a) : 1 { return low(5, 2); } int main() { }",
+        "1:33: BadWidth",
+    ),
+    (
+        "classical f(a[4]) : 4 { return a + 16; } int main() { }",
+        "1:36: BadWidth",
+    ),
+    (
+        "classical f(a[4]) : 4 { return (16) & a; } int main() { }",
+        "1:32: BadWidth",
+    ),
+    (
+        "classical f(a[4]) : 4 { return a ? a : a; } int main() { }",
+        "1:32: BadWidth",
+    ),
+    (
+        "classical f(a[4]) : 4 { return 2 ? a : a; } int main() { }",
+        "1:32: BadWidth",
+    ),
+    (
+        "classical f(a[4]) : 1 { return a; } int main() { }",
+        "1:32: BadWidth",
+    ),
+    (
+        "classical f(a) : 1 { return 2; } int main() { }",
+        "1:29: BadWidth",
+    ),
+    (
+        "classical f(a[33]) : 33 { return a * a; } int main() { }",
+        "1:34: BadWidth",
+    ),
+    (
+        "classical f(a[4]) : 4 { return ext(a, 3); } int main() { }",
+        "1:39: BadWidth",
+    ),
+    (
+        "classical f(a) : 1 { return ext(a, 0); } int main() { }",
+        "1:36: BadWidth",
+    ),
+    (
+        "classical f(a) : 1 { return ext(a, 65); } int main() { }",
+        "1:36: BadWidth",
+    ),
+    (
+        "classical f(a[4]) : 5 { return low(a, 5); } int main() { }",
+        "1:39: BadWidth",
+    ),
+    (
+        "classical f(a[4]) : 4 { return low(a, 0); } int main() { }",
+        "1:39: BadWidth",
+    ),
+    (
+        "classical f(a[0]) : 1 { return 0; } int main() { }",
+        "1:15: BadWidth",
+    ),
+    (
+        "classical f(a[65]) : 1 { return 0; } int main() { }",
+        "1:15: BadWidth",
+    ),
+    (
+        "classical f(a) : 0 { return 0; } int main() { }",
+        "1:18: BadWidth",
+    ),
+    (
+        "classical f(a) : 65 { return 0; } int main() { }",
+        "1:18: BadWidth",
+    ),
+    (
+        "classical f(a) : 1 { return a << 65; } int main() { }",
+        "1:34: BadWidth",
+    ),
+    (
+        "classical f(a[3]) : 3 { return a + 9 + zz; } int main() { }",
+        "1:36: BadWidth",
+    ),
 ];
 
 /// Two faults, of which the later in the text comes earlier in the walk, or a fault before that there is no `main`.
-const EARLIER_IN_THE_WALK: [(&str, TypeFault); 9] = [
-    ("int main() { int x; int x = y; }", unknown_name(29)),
-    ("int main() { qbit q; qbit q[r]; }", unknown_name(29)),
-    ("module m(int n, qbit n[k]) { } int main() { }", unknown_name(24)),
-    ("classical f(a) : 1 { a = b; return a; } int main() { }", unknown_name(26)),
-    ("classical f(a[4]) : 4 { return 16 + zz; } int main() { }", unknown_name(37)),
-    ("module m(double n, qbit a[n], int n) { } int main() { }", wrong_kind(27)),
-    ("module m() { x = 1; } module m() { }", unknown_name(14)),
-    ("int main() { m(1); } module m() { } module m(int n) { }", wrong_count(14)),
-    ("module m() { } module m() { x = 1; }", redefined(23)),
+const EARLIER_IN_THE_WALK: [(&str, &str); 9] = [
+    ("int main() { int x; int x = y; }", "1:29: UnknownName"),
+    ("int main() { qbit q; qbit q[r]; }", "1:29: UnknownName"),
+    (
+        "module m(int n, qbit n[k]) { } int main() { }",
+        "1:24: UnknownName",
+    ),
+    (
+        "classical f(a) : 1 { a = b; return a; } int main() { }",
+        "1:26: UnknownName",
+    ),
+    (
+        "classical f(a[4]) : 4 { return 16 + zz; } int main() { }",
+        "1:37: UnknownName",
+    ),
+    (
+        "module m(double n, qbit a[n], int n) { } int main() { }",
+        "1:27: WrongKind",
+    ),
+    ("module m() { x = 1; } module m() { }", "1:14: UnknownName"),
+    (
+        "int main() { m(1); } module m() { } module m(int n) { }",
+        "1:14: WrongCount",
+    ),
+    ("module m() { } module m() { x = 1; }", "1:23: Redefined"),
 ];
 
 /// Sources without a module `main` that has no parameters.
@@ -190,13 +321,29 @@ fn fault_of(rt: &impl Abort, alloc: Global, source: &str) -> Result<Option<TypeF
     }
 }
 
-fn all_have(
-    rt: &impl Abort,
-    alloc: Global,
-    faults: &[(&str, TypeFault)],
-) -> Result<(), Fail> {
-    for (source, fault) in faults {
-        assert_eq!(rt; fault_of(rt, alloc, source)?, Some(*fault), "{source}");
+/// A fault with its place, as it is told to the user.
+fn line_of(alloc: Global, fault: TypeFault) -> Result<String, AllocError> {
+    let (name, place) = match fault {
+        TypeFault::UnknownName(place) => ("UnknownName", place),
+        TypeFault::Redefined(place) => ("Redefined", place),
+        TypeFault::WrongKind(place) => ("WrongKind", place),
+        TypeFault::WrongCount(place) => ("WrongCount", place),
+        TypeFault::MeasuredUse(place) => ("MeasuredUse", place),
+        TypeFault::BadWidth(place) => ("BadWidth", place),
+        TypeFault::NoMain => return String::from_str(alloc, "NoMain"),
+        TypeFault::Memory => return String::from_str(alloc, "Memory"),
+    };
+    let line = place.line;
+    let column = place.column;
+    format!(in alloc; "{line}:{column}: {name}")
+}
+
+fn all_have(rt: &impl Abort, alloc: Global, faults: &[(&str, &str)]) -> Result<(), Fail> {
+    for (source, line) in faults {
+        match checked(rt, alloc, source)? {
+            Ok(_) => assert!(rt; false, "{source}"),
+            Err(fault) => assert_eq!(rt; line_of(alloc, fault)?.as_str(), *line, "{source}"),
+        }
     }
     Ok(())
 }
@@ -213,7 +360,11 @@ fn the_first_fault_is_told_with_its_place(rt: HostRuntime) -> Result<(), Fail> {
 #[test]
 fn a_source_has_a_main_without_parameters(rt: HostRuntime) -> Result<(), Fail> {
     for source in WITHOUT_MAIN {
-        assert_eq!(rt; fault_of(&rt, rt.alloc(), source)?, Some(TypeFault::NoMain), "{source}");
+        assert_eq!(rt;
+            fault_of(&rt, rt.alloc(), source)?,
+            Some(TypeFault::NoMain),
+            "{source}"
+        );
     }
     Ok(())
 }
