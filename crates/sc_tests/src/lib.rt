@@ -1,5 +1,7 @@
-//! Tests that cross crates: whole requests over a shelf and sinks in memory.
+//! Tests that cross crates: whole requests over a shelf and sinks in memory, and the faults of sources.
 #![tactic(auto)]
 
 #[cfg(test)]
 mod flat;
+#[cfg(test)]
+mod types;

@@ -1,16 +1,15 @@
 -- The first parts of a list that grows, and what called names take by them.
-use Rattle.std.proofs.Common.{◌≡◌, ℕ, ◌+◌, ◌<◌, cond, List, [], ◌∷◌, ◌++◌, length, map, take, get_or, min, Option, Some, None, refl, sym, ap, subst, ◌∙◌, length-take, arith}
+use Rattle.std.proofs.Common.{◌≡◌, ℕ, ◌+◌, ◌<◌, cond, List, [], ◌∷◌, ◌++◌, length, map, take, get_or, Option, Some, None, refl, sym, ap, subst, ◌∙◌, length-take, arith}
 use Rattle.std.proofs.lemmas.List.{take_more}
-use Rattle.std.specs.Prelude.{option_map, slice_get, replicate}
+use Rattle.std.specs.Prelude.{slice_get}
 use Rattle.std.specs.Option.{option_or, option_and_then}
 use Rattle.sc_syntax.specs.declared.Part.{Part}
 use Rattle.sc_syntax.specs.declared.Part.TheVariants as part
 use Rattle.sc_types.specs.declared.want.Want.{Want}
-use Rattle.sc_types.specs.Positions.{first_at}
 use Rattle.sc_types.specs.Sources.{name_of}
 use Rattle.sc_types.specs.Statements.{part_name, part_wants, named_wants}
 use Rattle.sc_types.specs.Tables.{Table, PutsNew, number_under}
-use Rattle.sc_types.specs.FirstParts.{has_name, FindsFirst, AreFirst}
+use Rattle.sc_types.specs.FirstParts.{has_name, AreFirst}
 use Rattle.sc_types.proofs.PositionLemmas.{first_at-push, found_first}
 
 map-push : {A B : Type 0} (f : A → B) (xs : List A) (x : A) → map f (xs ++ x ∷ []) ≡ map f xs ++ f x ∷ []

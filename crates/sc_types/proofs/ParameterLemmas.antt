@@ -1,9 +1,8 @@
 -- The parameters over the open scopes are walked as the model walks them.
-use Rattle.std.proofs.Common.{◌≡◌, ℕ, suc, ◌+◌, ◌<◌, Bool, true, false, cond, ◌&&◌, List, [], ◌∷◌, ◌++◌, length, take, drop, get_or, Option, Some, None, Result, Ok, Err, refl, sym, ap, subst, ◌∙◌, append_assoc, length-append, length-take, arith}
+use Rattle.std.proofs.Common.{◌≡◌, ℕ, suc, ◌+◌, ◌<◌, Bool, cond, List, [], ◌∷◌, ◌++◌, length, take, get_or, Option, Some, None, Result, Ok, Err, refl, sym, ap, subst, ◌∙◌, append_assoc, length-append, length-take, arith}
 use Rattle.std.proofs.lemmas.List.{take_more}
 use Rattle.std.specs.List.{list_any}
 use Rattle.sc_syntax.specs.declared.Kind.{Kind}
-use Rattle.sc_syntax.specs.declared.Name.{Name}
 use Rattle.sc_syntax.specs.declared.Param.{Param}
 use Rattle.sc_syntax.specs.Kind.{Kinds}
 use Rattle.sc_types.specs.declared.fault.TypeFault.{TypeFault}
@@ -11,7 +10,7 @@ use Rattle.sc_types.specs.Checks.{first_fault}
 use Rattle.sc_types.specs.Declarations.{Declaration, declared_kind, or_pi, is_new}
 use Rattle.sc_types.specs.Parameters.{FindsLastInt, Notes, or_int, length_names, param_on, params_on}
 use Rattle.sc_types.specs.Positions.{last_at, is_past}
-use Rattle.sc_types.specs.Scopes.{Stack, Stands, StandsAtBody, kind_in, declared}
+use Rattle.sc_types.specs.Scopes.{Stack, Stands, StandsAtBody, declared}
 use Rattle.sc_types.specs.Sources.{is_int_named, or_later, length_kinds, length_checks, param_kind, walk_params}
 use Rattle.sc_types.specs.Statements.{Walk}
 use Rattle.sc_types.specs.Tables.{Table, number_under}

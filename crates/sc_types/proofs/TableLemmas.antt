@@ -1,5 +1,5 @@
 -- The map of a table, by the bytes of its names.
-use Rattle.std.proofs.Common.{◌≡◌, ℕ, Bool, true, false, cond, List, [], ◌∷◌, map, nat_eq, Option, Some, None, refl, sym, ap, subst, ◌∙◌}
+use Rattle.std.proofs.Common.{◌≡◌, ℕ, Bool, true, false, cond, List, [], ◌∷◌, map, nat_eq, Option, Some, None, refl, sym, ap, ◌∙◌}
 use Rattle.std.specs.Map.{lookup}
 use Rattle.std.specs.Prelude.{is_some}
 use Rattle.std.specs.Option.{option_or}
@@ -8,7 +8,7 @@ use Rattle.std.specs.declared.alloc.Global.{Global}
 use Rattle.std.specs.Cmp.Lexicographic.{pointwise, same_text}
 use Rattle.indexmap.specs.IndexMap.{insert_entry}
 use Rattle.sc_base.specs.Texts.{same}
-use Rattle.sc_types.specs.Tables.{Numbered, Table, Puts, PutsNew, numbered_entry, number_under}
+use Rattle.sc_types.specs.Tables.{Table, Puts, PutsNew, numbered_entry, number_under}
 
 abbrev same_key : Vec ℕ Global → Vec ℕ Global → Bool
 same_key a b = pointwise nat_eq a.items b.items

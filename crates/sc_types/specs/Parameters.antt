@@ -1,5 +1,5 @@
 -- The parameters of a module over the open scopes.
-use Rattle.std.specs.Prelude.{◌≡◌, ℕ, suc, Bool, if◌then◌else◌, Option, Some, None, Result, Ok, Err, List, [], ◌∷◌}
+use Rattle.std.specs.Prelude.{◌≡◌, ℕ, suc, Bool, if◌then◌else◌, Option, Some, None, Result, Ok, List, [], ◌∷◌}
 use Rattle.sc_syntax.specs.declared.Kind.{Kind}
 use Rattle.sc_syntax.specs.declared.Kind.TheVariants as kind
 use Rattle.sc_syntax.specs.declared.NumSort.TheVariants as num

@@ -17,12 +17,7 @@ use sc_base::Text;
 use sc_syntax::{Kind, NumSort, Param, Sort};
 use std::alloc::Global;
 
-fn note(
-    alloc: Global,
-    last: &mut Table,
-    param: &Param,
-    position: usize,
-) -> Result<(), TypeFault>
+fn note(alloc: Global, last: &mut Table, param: &Param, position: usize) -> Result<(), TypeFault>
     ensures ok { OnOk result (Notes last.old param.now position last.new) }
     ensures err { IfErr result (λ f. f ≡ TypeFault.Memory) }
 {
@@ -90,12 +85,7 @@ fn stated_length<N: Names>(names: &N, sort: &Sort) -> Result<(), TypeFault>
     Ok(())
 }
 
-fn length(
-    scopes: &Scopes,
-    last: &Table,
-    position: usize,
-    sort: &Sort,
-) -> Result<(), TypeFault>
+fn length(scopes: &Scopes, last: &Table, position: usize, sort: &Sort) -> Result<(), TypeFault>
     ensures { result_err result ≡ first_fault (length_checks (length_names last.now position scopes.now) sort.now) }
 {
     let names = LengthNames {
@@ -133,11 +123,7 @@ fn declare_param(
 }
 
 /// The parameters in order, where the table has the positions of the last `int` parameters.
-fn declare_params(
-    scopes: &mut Scopes,
-    last: &Table,
-    params: &[Param],
-) -> Result<(), TypeFault>
+fn declare_params(scopes: &mut Scopes, last: &Table, params: &[Param]) -> Result<(), TypeFault>
     ensures ok { OnOk result (params_on last.now 0 scopes.old params.now ≡ Ok scopes.new) }
     ensures err { IfErr result (λ f. f ≢ TypeFault.Memory → params_on last.now 0 scopes.old params.now ≡ Err f) }
 {

@@ -56,11 +56,7 @@ fn type_words(alloc: Global, function: &WordFn) -> Result<TypedFn, TypeFault>
 }
 
 /// What is in a part; the typed function where it is a classical function.
-fn check_part(
-    alloc: Global,
-    parts: &FirstParts,
-    part: &Part,
-) -> Result<Option<TypedFn>, TypeFault>
+fn check_part(alloc: Global, parts: &FirstParts, part: &Part) -> Result<Option<TypedFn>, TypeFault>
     requires { IsFormedPart part.now }
     ensures typed { IfOk result (IsTyped part.now) }
     ensures none { OnOk result (first_fault (part_checks parts.now part.now) ≡ None) }
@@ -92,10 +88,7 @@ fn new_part(parts: &FirstParts, position: usize, part: &Part) -> Result<(), Type
 }
 
 /// The parts in order, each with its name and then what is in it.
-pub(crate) fn check_parts(
-    alloc: Global,
-    parts: &[Part],
-) -> Result<List<Option<TypedFn>>, TypeFault>
+pub(crate) fn check_parts(alloc: Global, parts: &[Part]) -> Result<List<Option<TypedFn>>, TypeFault>
     requires { All IsFormedPart parts.now }
     ensures typed { IfOk result (AreTyped parts.now) }
     ensures none { OnOk result (first_fault (parts_checks parts.now [] parts.now) ≡ None) }

@@ -39,10 +39,16 @@ fn main_of(parts: &[Part]) -> Result<u32, TypeFault>
     Err(TypeFault::NoMain)
 }
 
-/// Checks the names, kinds and widths of a formed source. The fault that comes first in the order of the
-/// text is answered, with its place; `NoMain` comes after all others, and has none. Every refusal comes
-/// exactly where it is that first fault, but `Memory`, which comes where no memory is left. The source is
-/// dropped on a refusal.
+/// Checks the names, kinds and widths of a formed source, and answers it as a value whose type says that
+/// it is well typed.
+///
+/// The first fault of the walk through the text is answered, with its place: `UnknownName` where a name is
+/// in no scope or a called name is no module and no classical function, `Redefined` where a name is declared
+/// a second time, `WrongKind` where something of another kind is needed, `WrongCount` where a call has
+/// another number of arguments, `MeasuredUse` where a classical bit stands for a number, and `BadWidth` where
+/// a width of a classical function does not fit. `NoMain` comes where nothing else is wrong and no module
+/// `main` is without parameters. Each of them comes exactly there; `Memory` comes where no memory is left.
+/// The source is dropped on a refusal.
 pub fn check(alloc: Global, source: Source) -> Result<Checked, TypeFault>
     requires { IsFormedSource source }
     ensures source { IfOk result (λ c. c.source ≡ source) }

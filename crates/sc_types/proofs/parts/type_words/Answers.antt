@@ -1,8 +1,4 @@
-use Rattle.std.proofs.Common.{Some, sym, subst, ap, ◌∙◌, ◌≡◌, ◌≢◌}
-use Rattle.sc_types.specs.Sources.{of_word, words_checks}
-use Rattle.sc_types.specs.Checks.{first_fault}
-use Rattle.sc_types.specs.declared.fault.TypeFault.{TypeFault}
-use Rattle.sc_types.specs.declared.fault.TypeFault.TheVariants.{Memory}
+use Rattle.std.proofs.Common.{Some, sym, ap, ◌∙◌}
 use Rattle.sc_types.proofs.PartLemmas.{words_fine, words_fail, other_than_memory}
 use Rattle.sc_types.proofs.parts.type_words.Goals as goal
 

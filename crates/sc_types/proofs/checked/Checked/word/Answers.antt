@@ -1,6 +1,4 @@
 use Rattle.std.proofs.Common.{None, ap, ◌∙◌}
-use Rattle.std.specs.Prelude.{Option}
-use Rattle.sc_word.specs.Typed.{TypedWords}
 use Rattle.sc_types.specs.Typing.{typed_source, flat}
 use Rattle.sc_types.proofs.TypingLemmas.{typed_by_position}
 use Rattle.sc_types.proofs.checked.Checked.word.Goals as goal

@@ -1,4 +1,4 @@
-use Rattle.std.proofs.Common.{List, ◌∷◌, [], ◌++◌, ap, ◌∙◌, subst}
+use Rattle.std.proofs.Common.{◌∷◌, [], ◌++◌, ap, ◌∙◌, subst}
 use Rattle.sc_types.specs.Tables.{PutsNew}
 use Rattle.sc_types.proofs.FirstPartsLemmas.{next_first}
 use Rattle.sc_types.proofs.first_parts.FirstParts.new.Goals as goal

@@ -1,4 +1,4 @@
-use Rattle.std.proofs.Common.{◌≡◌, ◌∷◌, [], ◌++◌, List, ℕ, map, ap, subst, ◌∙◌}
+use Rattle.std.proofs.Common.{◌≡◌, List, ℕ, map, subst, ◌∙◌}
 use Rattle.sc_types.specs.Tables.{Table, Puts, numbered_entry}
 use Rattle.sc_types.proofs.TableLemmas.{puts_entry}
 use Rattle.sc_types.proofs.table.Table.put.Goals as goal
