@@ -19,3 +19,4 @@ pub mod OneSchedule
 pub mod Lawful
 pub mod RankLemmas
 pub mod SomeRank
+pub mod LaidSteps

@@ -11,3 +11,4 @@ pub mod Laws
 pub mod Layout
 pub mod Rounds
 pub mod Board
+pub mod Laid

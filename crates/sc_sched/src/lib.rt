@@ -3,9 +3,12 @@
 
 mod board;
 mod laws;
+mod layout;
+mod narrow;
 mod numbers;
 mod order;
 mod plan;
+mod ranks;
 mod round;
 mod taking;
 #[cfg(test)]
