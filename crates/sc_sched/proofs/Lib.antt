@@ -20,3 +20,4 @@ pub mod Lawful
 pub mod RankLemmas
 pub mod SomeRank
 pub mod LaidSteps
+pub mod Grouping
