@@ -2,6 +2,7 @@
 #![tactic(auto)]
 
 mod board;
+mod cutting;
 mod groups;
 mod laws;
 mod layout;
