@@ -21,3 +21,4 @@ pub mod RankLemmas
 pub mod SomeRank
 pub mod LaidSteps
 pub mod Grouping
+pub mod NextGates

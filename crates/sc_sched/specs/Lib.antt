@@ -14,3 +14,4 @@ pub mod Board
 pub mod Laid
 pub mod Groups
 pub mod Cutters
+pub mod Neighbours

@@ -7,6 +7,7 @@ mod groups;
 mod laws;
 mod layout;
 mod narrow;
+mod neighbours;
 mod numbers;
 mod order;
 mod plan;
