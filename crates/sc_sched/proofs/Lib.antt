@@ -22,3 +22,4 @@ pub mod SomeRank
 pub mod LaidSteps
 pub mod Grouping
 pub mod NextGates
+pub mod Freeing

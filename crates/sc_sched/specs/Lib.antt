@@ -15,3 +15,4 @@ pub mod Laid
 pub mod Groups
 pub mod Cutters
 pub mod Neighbours
+pub mod Waiting

@@ -18,6 +18,7 @@ mod taking;
 mod tests;
 mod text;
 mod tray;
+mod waiting;
 mod wires;
 
 pub use laws::{at_most_one_schedule, order_is_lawful, some_schedule};
