@@ -7,6 +7,7 @@ use Rattle.std.proofs.lemmas.List.{get_or-set_same, get_or-set_other, take_more}
 use Rattle.std.proofs.lemmas.List.Folds.{list_any-append}
 use Rattle.sc_sched.specs.Neighbours.{is_number}
 use Rattle.sc_sched.specs.Rounds.{stands}
+use Rattle.sc_sched.proofs.Count.{either}
 
 pub inside_of : (o : Option ℕ) (n : ℕ) → ((x : ℕ) → is_number o x ≡ true → x < n) → IfSome o (λ x. x < n)
 inside_of None n h = tt
@@ -60,3 +61,10 @@ places_more old now now' step i l b e h z =
       | inr n ↦ (let there : slice_index_or (slice_set now x true) z false ≡ slice_index_or now z false = get_or-set_other now x z true false n in
           rw (e, more, no_eq z x n, or_none (stands (take i step) z)) (there ∙ h z))
     ]
+
+-- a gate of the list is put into a step
+pub inside_more : (step step' : List ℕ) (x n : ℕ) → step' ≡ step ++ x ∷ [] → x < n → ((z : ℕ) → stands step z ≡ true → z < n) → (z : ℕ) → stands step' z ≡ true → z < n
+inside_more step step' x n e b h z t = elim (either (stands step z) _ (sym (list_any-append (λ y. z == y) step (x ∷ [])) ∙ (sym (ap (λ (xs : List ℕ). stands xs z) e) ∙ t))) [
+  | inl l ↦ h z l
+  | inr r ↦ elim (either (z == x) false r) [ inl q ↦ (let i : z ≡ x = eqb-true z x q in omega (arith, b, i)) | inr f ↦ absurd (false≢true f) ]
+]
