@@ -23,3 +23,4 @@ pub mod LaidSteps
 pub mod Grouping
 pub mod NextGates
 pub mod Freeing
+pub mod Progress

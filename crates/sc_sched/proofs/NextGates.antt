@@ -87,11 +87,11 @@ on_wire_some : (f : Wire → Option ℕ) (o : Option Wire) (q : ℕ) → on_wire
 on_wire_some f None q e = absurd (none_some q e)
 on_wire_some f (Some w) q e = (w, refl, e)
 
-each_all : (p : ℕ → Bool) (f : Wire → Option ℕ) (g : Gate) → ((w : Wire) (q : ℕ) → member w (operands g) ≡ true → f w ≡ Some q → p q ≡ true) → each p (numbers_by f g) ≡ true
+pub each_all : (p : ℕ → Bool) (f : Wire → Option ℕ) (g : Gate) → ((w : Wire) (q : ℕ) → member w (operands g) ≡ true → f w ≡ Some q → p q ≡ true) → each p (numbers_by f g) ≡ true
 each_all p f g h = both _ _ (none_or_all p (f g.a) (λ q e. h g.a q (member_here g.a _) e))
     (both _ _ (on_wire_all p f g.b (λ w q o e. h w q (member_later g.a w _ (b_member g.b g.c w o)) e)) (on_wire_all p f g.c (λ w q o e. h w q (member_later g.a w _ (c_member g.b g.c w o)) e)))
 
-each_at : (p : ℕ → Bool) (f : Wire → Option ℕ) (g : Gate) (w : Wire) (q : ℕ) → each p (numbers_by f g) ≡ true → member w (operands g) ≡ true → f w ≡ Some q → p q ≡ true
+pub each_at : (p : ℕ → Bool) (f : Wire → Option ℕ) (g : Gate) (w : Wire) (q : ℕ) → each p (numbers_by f g) ≡ true → member w (operands g) ≡ true → f w ≡ Some q → p q ≡ true
 each_at p f g w q h m e =
     let r : (none_or p (on_wire f g.b) && none_or p (on_wire f g.c)) ≡ true = and_right (none_or p (f g.a)) _ h in
     elim (operand_cases g w m) [
@@ -103,18 +103,18 @@ each_at p f g w q h m e =
     ]
 
 -- one of the numbers fails
-record Fails (p : ℕ → Bool) (f : Wire → Option ℕ) (g : Gate) : Type 0 where
-  wire : Wire
-  number : ℕ
-  operand : member wire (operands g) ≡ true
-  is : f wire ≡ Some number
-  fails : p number ≡ false
+pub record Fails (p : ℕ → Bool) (f : Wire → Option ℕ) (g : Gate) : Type 0 where
+  pub wire : Wire
+  pub number : ℕ
+  pub operand : member wire (operands g) ≡ true
+  pub is : f wire ≡ Some number
+  pub fails : p number ≡ false
 
 and_false : (a b : Bool) → (a && b) ≡ false → (a ≡ false) ⊎ (b ≡ false)
 and_false true b h = inr h
 and_false false b h = inl refl
 
-each_fails : (p : ℕ → Bool) (f : Wire → Option ℕ) (g : Gate) → each p (numbers_by f g) ≡ false → Fails p f g
+pub each_fails : (p : ℕ → Bool) (f : Wire → Option ℕ) (g : Gate) → each p (numbers_by f g) ≡ false → Fails p f g
 each_fails p f g h = elim (and_false (none_or p (f g.a)) _ h) [
   | inl a ↦ (let (q, e, n) = none_or_not p (f g.a) a in record { wire = g.a; number = q; operand = member_here g.a _; is = e; fails = n })
   | inr r ↦ elim (and_false (none_or p (on_wire f g.b)) _ r) [

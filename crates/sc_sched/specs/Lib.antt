@@ -16,3 +16,4 @@ pub mod Groups
 pub mod Cutters
 pub mod Neighbours
 pub mod Waiting
+pub mod Placing

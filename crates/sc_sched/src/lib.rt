@@ -10,6 +10,7 @@ mod narrow;
 mod neighbours;
 mod numbers;
 mod order;
+mod placing;
 mod plan;
 mod ranks;
 mod round;
