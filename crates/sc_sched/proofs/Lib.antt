@@ -20,3 +20,6 @@ pub mod Lawful
 pub mod RankLemmas
 pub mod SomeRank
 pub mod LaidSteps
+pub mod HeaviestChains
+pub mod RanksAre
+pub mod RankSteps

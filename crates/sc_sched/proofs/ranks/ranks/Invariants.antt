@@ -1,0 +1,8 @@
+use Rattle.std.proofs.Common.{◌≡◌, ℕ, ◌<◌, length}
+use Rattle.sc_gate.specs.Heights.{height_at, through_at}
+use Rattle.sc_sched.specs.Ranks.{timed_gates}
+use Rattle.sc_sched.proofs.RankSteps.{AreRanks}
+use Rattle.sc_sched.proofs.ranks.ranks.Given as goal
+
+abbrev pub invariant-loop-x : goal.invariant-loop-x
+invariant-loop-x l = AreRanks (timed_gates l.times l.gates) l.x l.ranks.items
