@@ -23,3 +23,4 @@ pub mod LaidSteps
 pub mod HeaviestChains
 pub mod RanksAre
 pub mod RankSteps
+pub mod KindNumbers

@@ -12,3 +12,4 @@ pub mod Layout
 pub mod Rounds
 pub mod Board
 pub mod Laid
+pub mod Numbering

@@ -2,6 +2,7 @@
 #![tactic(auto)]
 
 mod board;
+mod kinds;
 mod laws;
 mod layout;
 mod narrow;
