@@ -24,3 +24,4 @@ pub mod HeaviestChains
 pub mod RanksAre
 pub mod RankSteps
 pub mod KindNumbers
+pub mod PlaceLemmas

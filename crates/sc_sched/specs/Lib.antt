@@ -13,3 +13,4 @@ pub mod Rounds
 pub mod Board
 pub mod Laid
 pub mod Numbering
+pub mod Places

@@ -8,6 +8,7 @@ mod layout;
 mod narrow;
 mod numbers;
 mod order;
+mod places;
 mod plan;
 mod ranks;
 mod round;
