@@ -25,3 +25,5 @@ pub mod RanksAre
 pub mod RankSteps
 pub mod KindNumbers
 pub mod PlaceLemmas
+pub mod SlotLemmas
+pub mod SlotSteps

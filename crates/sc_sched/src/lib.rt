@@ -12,6 +12,7 @@ mod places;
 mod plan;
 mod ranks;
 mod round;
+mod slots;
 mod taking;
 #[cfg(test)]
 mod tests;
