@@ -32,12 +32,12 @@ kind_here [] x g l = absurd (omega (arith, l))
 kind_here (h ∷ gates) zero g l = refl
 kind_here (h ∷ gates) (suc x) g l = kind_here gates x g (omega (arith, l))
 
-index_map : (f : Gate → ℕ) (gates : List Gate) (x d : ℕ) (g : Gate) → x < length gates → slice_index_or (map f gates) x d ≡ f (get_or gates x g)
+pub index_map : (f : Gate → ℕ) (gates : List Gate) (x d : ℕ) (g : Gate) → x < length gates → slice_index_or (map f gates) x d ≡ f (get_or gates x g)
 index_map f [] x d g l = absurd (omega (arith, l))
 index_map f (h ∷ gates) zero d g l = refl
 index_map f (h ∷ gates) (suc x) d g l = index_map f gates x d g (omega (arith, l))
 
-some_gate : (gates : List Gate) (x : ℕ) → x < length gates → Gate
+pub some_gate : (gates : List Gate) (x : ℕ) → x < length gates → Gate
 some_gate [] x l = absurd (omega (arith, l))
 some_gate (h ∷ gates) x l = h
 
@@ -74,6 +74,9 @@ unfolding arity_or
 arity_by_kind [] x = refl
 arity_by_kind (h ∷ gates) zero = refl
 arity_by_kind (h ∷ gates) (suc x) = arity_by_kind gates x
+
+pub arity_alike : (gates : List Gate) (x y : ℕ) → kind_at gates x ≡ kind_at gates y → arity_at gates x ≡ arity_at gates y
+arity_alike gates x y h = arity_by_kind gates x ∙ (ap arity_or h ∙ sym (arity_by_kind gates y))
 
 pub arity_of_kind : (gates : List Gate) (x : ℕ) (k : Kind) → kind_at gates x ≡ Some k → arity_at gates x ≡ qubits_of (name_of k)
 unfolding arity_or

@@ -27,3 +27,4 @@ pub mod KindNumbers
 pub mod PlaceLemmas
 pub mod SlotLemmas
 pub mod SlotSteps
+pub mod Layouts

@@ -1,6 +1,6 @@
 -- The positions of gates in another order.
-use Rattle.std.proofs.Common.{◌≡◌, ◌≢◌, ℕ, zero, suc, ◌+◌, ◌<◌, ◌≤◌, Bool, true, false, Some, None, List, [], ◌∷◌, ◌++◌, length, get_or, refl, sym, ap, ◌∙◌, subst, arith, ◌⊎◌, inl, inr}
-use Rattle.std.specs.Prelude.{slice_index, slice_set, nat_lt, Contains, ◌==◌}
+use Rattle.std.proofs.Common.{◌≡◌, ◌≢◌, ℕ, zero, suc, ◌+◌, ◌<◌, Bool, true, false, List, [], ◌∷◌, ◌++◌, length, get_or, refl, sym, ap, ◌∙◌, subst, arith, inl, inr}
+use Rattle.std.specs.Prelude.{slice_index, slice_set, nat_lt, ◌==◌}
 use Rattle.std.specs.List.{All, AllPairs, IsDistinct}
 use Rattle.std.specs.List.Sorted.{IsPermutation, IsStrictlyIncreasing}
 use Rattle.std.specs.Cmp.{IsStrictWeakOrder}
@@ -60,6 +60,15 @@ positions_moved xs p =
       on = λ x l. (let (i, b, e) = Contains-permutation (positions (length xs)) xs x p (x, omega (arith, l, length_positions (length xs)), positions_at (length xs) x x l) in
           (i, b, get_or_default xs i 0 x b ∙ e));
     }
+
+-- the same of a list that is equal
+pub permuted : (n : ℕ) (xs ys : List ℕ) → IsPermutation (positions n) xs → ys ≡ xs → IsPermutation (positions (length ys)) ys
+permuted n xs ys p e =
+    let m : n ≡ length ys = omega (arith, ap (λ (z : List ℕ). length z) e, length_permutation (positions n) xs p, length_positions n) in
+    subst (λ (k : ℕ). IsPermutation (positions k) ys) m (subst (λ (z : List ℕ). IsPermutation (positions n) z) (sym e) p)
+
+pub many_permuted : (n : ℕ) (xs : List ℕ) → IsPermutation (positions n) xs → length xs ≡ n
+many_permuted n xs p = length_permutation (positions n) xs p ∙ length_positions n
 
 -- the list of the indexes of each is its inverse
 pub inverse_is : (xs back : List ℕ) → IsPermutation (positions (length xs)) xs → length back ≡ length xs → ((i : ℕ) → i < length xs → slice_index back (slice_index xs i) ≡ i) → AreInverse xs back

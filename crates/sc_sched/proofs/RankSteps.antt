@@ -1,5 +1,5 @@
 -- One gate more of the passes that compute heights and ends.
-use Rattle.std.proofs.Common.{◌≡◌, ℕ, zero, suc, ◌+◌, ◌-◌, ◌*◌, ◌<◌, ◌≤◌, Option, Some, List, [], ◌∷◌, ◌++◌, length, get_or, map, refl, sym, ap, ◌∙◌, subst, arith, inl, inr, if◌then◌else◌}
+use Rattle.std.proofs.Common.{◌≡◌, ℕ, zero, suc, ◌+◌, ◌-◌, ◌<◌, ◌≤◌, Option, Some, List, [], ◌∷◌, ◌++◌, length, get_or, map, refl, sym, ap, ◌∙◌, subst, arith, inl, inr, if◌then◌else◌}
 use Rattle.std.specs.Prelude.{slice_set}
 use Rattle.std.proofs.lemmas.List.{length-map, length-append}
 use Rattle.std.proofs.lemmas.Option.{unwrap_or-slice_get}
@@ -10,7 +10,7 @@ use Rattle.sc_gate.specs.declared.gate.Gate.{Gate}
 use Rattle.sc_gate.specs.Gates.{operands}
 use Rattle.sc_gate.specs.Wires.{member}
 use Rattle.sc_gate.specs.Times.{duration, AreTimes}
-use Rattle.sc_gate.specs.Chains.{Timed, timed, weight_at, largest, total_weight}
+use Rattle.sc_gate.specs.Chains.{Timed, timed, weight_at, largest}
 use Rattle.sc_gate.specs.Heights.{height_at, through_at}
 use Rattle.sc_sched.specs.Ranks.{timed_gates, end_at, IsRank}
 use Rattle.sc_sched.specs.declared.order.Rank.{Rank}

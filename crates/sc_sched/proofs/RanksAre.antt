@@ -1,13 +1,12 @@
 -- Heights and heaviest chains through gates make ranks, and are at most the weight of the list.
-use Rattle.std.proofs.Common.{◌≡◌, ℕ, zero, suc, ◌+◌, ◌-◌, ◌*◌, ◌<◌, ◌≤◌, true, Option, Some, None, List, [], ◌∷◌, length, map, refl, sym, ap, ◌∙◌, subst, arith, ◌⊎◌, inl, inr}
-use Rattle.std.specs.Prelude.{slice_index, Contains}
+use Rattle.std.proofs.Common.{◌≡◌, ℕ, zero, suc, ◌*◌, ◌<◌, ◌≤◌, true, Some, None, List, [], ◌∷◌, length, refl, sym, subst, arith, ◌⊎◌, inl, inr}
+use Rattle.std.specs.Prelude.{Contains}
 use Rattle.sc_base.specs.declared.names.GateName.{GateName}
 use Rattle.sc_base.specs.declared.names.GateName.TheVariants as name
-use Rattle.sc_gate.specs.declared.gate.Kind.{Kind}
 use Rattle.sc_gate.specs.declared.gate.Gate.{Gate}
 use Rattle.sc_gate.specs.Gates.{name_of, place_of}
 use Rattle.sc_gate.specs.Times.{duration, AreTimes}
-use Rattle.sc_gate.specs.Chains.{Timed, timed, meets_at, weight_at, weight_of, last_of, Linked, Depend, Chain, Greatest, total_weight}
+use Rattle.sc_gate.specs.Chains.{Timed, meets_at, weight_at, last_of, Linked, Depend, Greatest, total_weight}
 use Rattle.sc_gate.specs.Heights.{ChainFrom, ChainThrough, StandsIn, height_at, through_at}
 use Rattle.sc_gate.proofs.Greatest.{greatest_same}
 use Rattle.sc_gate.proofs.ChainLaws.{chain_within}

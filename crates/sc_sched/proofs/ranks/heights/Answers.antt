@@ -1,4 +1,4 @@
-use Rattle.std.proofs.Common.{◌≡◌, ◌+◌, ◌-◌, ◌<◌, ◌≤◌, length, ◌∙◌, arith}
+use Rattle.std.proofs.Common.{◌-◌, ◌<◌, length, ◌∙◌, arith}
 use Rattle.sc_sched.specs.Ranks.{timed_gates}
 use Rattle.sc_sched.specs.WireTables.{number_at}
 use Rattle.sc_sched.proofs.HeaviestChains.{tails_none}

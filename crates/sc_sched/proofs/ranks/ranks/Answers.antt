@@ -1,9 +1,8 @@
-use Rattle.std.proofs.Common.{◌≡◌, ◌+◌, ◌<◌, ◌≤◌, length, refl, ◌∙◌, arith}
-use Rattle.sc_gate.specs.Heights.{height_at, through_at}
+use Rattle.std.proofs.Common.{◌≡◌, ◌+◌, ◌<◌, length, refl, ◌∙◌, arith}
+use Rattle.sc_gate.specs.Heights.{height_at}
 use Rattle.sc_sched.specs.Ranks.{timed_gates, end_at}
 use Rattle.sc_sched.proofs.Free.{index_is}
-use Rattle.sc_sched.proofs.RanksAre.{through_within, total_few}
-use Rattle.sc_sched.proofs.RankSteps.{many_timed, lasts_within, through_is, through_fits, ranks_more}
+use Rattle.sc_sched.proofs.RankSteps.{lasts_within, through_is, through_fits, ranks_more}
 use Rattle.sc_sched.proofs.ranks.ranks.Goals as goal
 
 pub overflow_sub-before : goal.overflow_sub-before

@@ -1,5 +1,3 @@
-use Rattle.std.proofs.Common.{◌≡◌, ℕ, ◌<◌, length}
-use Rattle.sc_gate.specs.Heights.{height_at, through_at}
 use Rattle.sc_sched.specs.Ranks.{timed_gates}
 use Rattle.sc_sched.proofs.RankSteps.{AreRanks}
 use Rattle.sc_sched.proofs.ranks.ranks.Given as goal

@@ -1,8 +1,8 @@
-use Rattle.std.proofs.Common.{◌≡◌, ℕ, ℤ, Bool, Option, Some, cond, sym, ap, ◌∙◌, ◌&&◌}
+use Rattle.std.proofs.Common.{◌≡◌, ℕ, ℤ, Option, Some, cond, ap, ◌∙◌, ◌&&◌}
 use Rattle.std.specs.Prelude.{◌==◌}
 use Rattle.std.specs.Ordering.{int_eq}
 use Rattle.sc_gate.specs.Gates.{name_of, place_of}
-use Rattle.sc_sched.specs.Gates.{value_of, same_kind}
+use Rattle.sc_sched.specs.Gates.{value_of}
 use Rattle.sc_sched.specs.Numbering.{number_of}
 use Rattle.sc_sched.proofs.kinds.KindTable.put.Goals as goal
 
