@@ -5,6 +5,7 @@ use Rattle.std.proofs.lemmas.Bool.{cases_order}
 use Rattle.std.proofs.lemmas.List.{get_or-set_same, get_or-set_other, length-set, length-append}
 use Rattle.std.proofs.Math.ListN.{get_or-append, get_or-map}
 use Rattle.std.proofs.Math.Seq.{get_or-append_seam, drop-cons, take-suc}
+use Rattle.std.proofs.lemmas.Option.{same_Some}
 use Rattle.sc_gate.specs.declared.gate.Wire.{Wire}
 use Rattle.sc_gate.specs.declared.gate.Gate.{Gate}
 use Rattle.sc_gate.specs.Wires.{member}
@@ -39,12 +40,9 @@ height_there (g ∷ tg) (suc x) t rest e = height_there tg x t rest e
 largest_same : (f g : Wire → ℕ) → ((w : Wire) → f w ≡ g w) → (ws : List Wire) → largest (map f ws) ≡ largest (map g ws)
 largest_same f g h ws = ap (λ (k : Wire → ℕ). largest (map k ws)) (fun_same f g h)
 
-some_same : (a b : ℕ) → Some a ≡ Some b → a ≡ b
-some_same a b h = cc
-
 -- the number of a wire after one more gate
 gate_number : (b : Bool) (x y : ℕ) (old new : Option ℕ) → new ≡ (if b then Some x else old) → new ≡ Some y → (y ≡ x) ⊎ (old ≡ Some y)
-gate_number true x y old new e f = inl (some_same y x (sym f ∙ e))
+gate_number true x y old new e f = inl (same_Some y x (sym f ∙ e))
 gate_number false x y old new e f = inr (sym e ∙ f)
 
 value_set : (values : List ℕ) (number : Option ℕ) (x v : ℕ) → ((y : ℕ) → number ≡ Some y → y ≢ x) → value_or_zero (slice_set values x v) number ≡ value_or_zero values number

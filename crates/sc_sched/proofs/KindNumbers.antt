@@ -5,6 +5,7 @@ use Rattle.std.proofs.lemmas.Bool.{cases_Bool, cases_lt}
 use Rattle.std.proofs.lemmas.List.{length-append}
 use Rattle.std.proofs.Math.ListN.{get_or-append}
 use Rattle.std.proofs.Math.Seq.{get_or-append_seam}
+use Rattle.std.proofs.lemmas.Option.{same_Some}
 use Rattle.sc_gate.specs.declared.gate.Kind.{Kind}
 use Rattle.sc_gate.specs.declared.gate.Gate.{Gate}
 use Rattle.sc_gate.specs.Gates.{name_of, qubits_of}
@@ -13,9 +14,6 @@ use Rattle.sc_sched.specs.Numbering.{AreNumbered, IsTableOf}
 use Rattle.sc_sched.proofs.Count.{lt_cases}
 use Rattle.sc_sched.proofs.SameKind.{same_kind-true, same_kind-refl}
 use Rattle.sc_sched.proofs.Lawful.{arity_of_kind}
-
-some_same : {A : Type 0} (a b : A) → Some a ≡ Some b → a ≡ b
-some_same a b h = cc
 
 -- the number n of the kind k, which the next gate has, beside the numbers of the gates before
 record Numbers (gates : List Gate) (many d : ℕ) (kind room room' : List ℕ) (k : Kind) (n : ℕ) : Type 0 where
@@ -36,7 +34,7 @@ module _ (gates : List Gate) (many d : ℕ) (kind room : List ℕ) (number : Kin
         more = omega arith;
         few = omega arith;
         is_kind = λ y m g. a.apart y x m l (g ∙ sym f) ∙ h;
-        has_number = λ y m g. some_same (slice_index kind y) n (sym (t.known y k m g) ∙ e);
+        has_number = λ y m g. same_Some (slice_index kind y) n (sym (t.known y k m g) ∙ e);
         room_of = ap (slice_index room) (sym f) ∙ (a.rooms x l ∙ ap (λ (z : ℕ). d / z) (arity_of_kind gates x k h));
         rooms_stay = λ i b. refl;
         used = λ i b. inl b;
@@ -112,7 +110,7 @@ module _ (gates : List Gate) (many d : ℕ) (kind room : List ℕ) (number : Kin
     table_more : (number' : Kind → Option ℕ) → ((other : Kind) → number' other ≡ (if same_kind k other then Some n else number other)) → (m : ℕ) → m ≡ suc many → IsTableOf gates m kind' number'
     table_more number' u m e = record {
       known = λ x j l f. elim (lt_cases x many (omega (arith, e, l))) [
-        | inl p ↦ (let g : k ≡ j = some_same k j (sym (here x p) ∙ f) in
+        | inl p ↦ (let g : k ≡ j = same_Some k j (sym (here x p) ∙ f) in
             u j ∙ (ap (λ (z : Bool). if z then Some n else number j) (ap (same_kind k) (sym g) ∙ same_kind-refl k) ∙ ap Some (sym (last x p))))
         | inr p ↦ elim (cases_Bool (same_kind k j)) [
           | inl g ↦ u j ∙ (ap (λ (z : Bool). if z then Some n else number j) g ∙ ap Some (sym (old x p ∙ s.has_number x p (f ∙ ap Some (sym (same_kind-true k j g))))))
@@ -120,7 +118,7 @@ module _ (gates : List Gate) (many d : ℕ) (kind room : List ℕ) (number : Kin
         ]
       ];
       only = λ j i f. elim (cases_Bool (same_kind k j)) [
-        | inl g ↦ (let q : n ≡ i = some_same n i (sym (u j ∙ ap (λ (z : Bool). if z then Some n else number j) g) ∙ f) in
+        | inl g ↦ (let q : n ≡ i = same_Some n i (sym (u j ∙ ap (λ (z : Bool). if z then Some n else number j) g) ∙ f) in
             (many, omega (arith, e), h ∙ ap Some (same_kind-true k j g), last many refl ∙ q))
         | inr g ↦ (let (x, l, p, q) = t.only j i (sym (u j ∙ ap (λ (z : Bool). if z then Some n else number j) g) ∙ f) in (x, omega (arith, l, e), p, old x l ∙ q))
       ];

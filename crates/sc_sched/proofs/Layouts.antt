@@ -4,6 +4,7 @@ use Rattle.std.specs.Prelude.{◌==◌, slice_index, slice_index_or, position, u
 use Rattle.std.proofs.lemmas.Bool.{cases_lt, cases_order, eqb-true, eq-eqb}
 use Rattle.std.proofs.lemmas.List.{length-replicate}
 use Rattle.std.proofs.Math.ListN.{get_or-eq_default}
+use Rattle.std.proofs.lemmas.Option.{same_Some}
 use Rattle.sc_gate.specs.declared.gate.Kind.{Kind}
 use Rattle.sc_gate.specs.declared.gate.Gate.{Gate}
 use Rattle.sc_sched.specs.Gates.{arity_at, kind_of, kind_at, same_kind}
@@ -110,15 +111,12 @@ module _ (kind gate_at place gate_in slot start : List ℕ) (kinds : ℕ) (many 
         ∙ (all_false m (slice_index place x) ∙ sym (ap (λ (z : List Bool). slice_index_or z (slice_index slot x) false) g ∙ all_false m (slice_index slot x)));
   }
 
-some_same : {A : Type 0} (a b : A) → Some a ≡ Some b → a ≡ b
-some_same a b h = cc
-
 module _ (gates : List Gate) where
   -- gates of one kind have one name
   name_of_kind : (x y : ℕ) → x < length gates → y < length gates → kind_at gates x ≡ kind_at gates y → slice_index (kind_names gates) x ≡ slice_index (kind_names gates) y
   name_of_kind x y l b e =
       let d : Gate = some_gate gates x l in
-      let k : kind_of (get_or gates x d) ≡ kind_of (get_or gates y d) = some_same _ _ (sym (kind_here gates x d l) ∙ (e ∙ kind_here gates y d b)) in
+      let k : kind_of (get_or gates x d) ≡ kind_of (get_or gates y d) = same_Some _ _ (sym (kind_here gates x d l) ∙ (e ∙ kind_here gates y d b)) in
       index_map (first_like gates) gates x 0 d l ∙ (ap (λ (k : Kind). unwrap_or (position (λ other. same_kind k (kind_of other)) gates) 0) k ∙ sym (index_map (first_like gates) gates y 0 d b))
 
   kind_of_name : (x y : ℕ) → x < length gates → y < length gates → slice_index (kind_names gates) x ≡ slice_index (kind_names gates) y → kind_at gates x ≡ kind_at gates y
