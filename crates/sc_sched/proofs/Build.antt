@@ -8,7 +8,7 @@ use Rattle.sc_sched.specs.Legal.{Step, placed, stands_in}
 use Rattle.sc_sched.specs.Schedule.{all_below, ready, cut, IsPriority}
 use Rattle.sc_sched.proofs.Count.{and_left, and_right, both, or_left, or_right, count_below_lt}
 use Rattle.sc_sched.proofs.Step.{tried_same, pick, step_exists, fits_same, count_all}
-use Rattle.sc_sched.proofs.Schedule.{cut_same, not_true}
+use Rattle.sc_sched.proofs.SameSchedules.{cut_same, not_true}
 use Rattle.sc_sched.proofs.Take.{with_gate, needed_with}
 use Rattle.sc_sched.proofs.Cut.{all_zero, div_none}
 use Rattle.sc_sched.proofs.Stands.{stands_cut, count_some}

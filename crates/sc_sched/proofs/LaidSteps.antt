@@ -1,13 +1,13 @@
 -- A step over the layout of a gate list is one of the list.
-use Rattle.std.proofs.Common.{◌≡◌, ℕ, zero, suc, ◌+◌, ◌%◌, ◌<◌, ◌≤◌, Bool, true, false, cond, List, length, refl, sym, ap, ◌∙◌, subst, arith, inl, inr, ◌&&◌, ◌||◌, eqb}
-use Rattle.std.specs.Prelude.{◌==◌, nat_lt, nat_le, slice_index, slice_index_or}
+use Rattle.std.proofs.Common.{◌≡◌, ℕ, zero, suc, ◌+◌, ◌%◌, ◌<◌, ◌≤◌, Bool, true, false, cond, List, refl, sym, ap, ◌∙◌, arith, inl, inr, ◌&&◌, ◌||◌, eqb}
+use Rattle.std.specs.Prelude.{◌==◌, nat_lt, nat_le, slice_index}
 use Rattle.std.proofs.lemmas.Bool.{cases_Bool, cases_order, eq-eqb, lt-ltb, le-ltb, and_right}
 use Rattle.std.proofs.lemmas.List.{get_or_default}
 use Rattle.sc_gate.specs.declared.gate.Gate.{Gate}
 use Rattle.sc_sched.specs.Step.{count_below, Shop, size, needed, fits, beside, IsShop, IsStep}
 use Rattle.sc_sched.specs.Layout.{Layout}
 use Rattle.sc_sched.specs.Rounds.{shop_of}
-use Rattle.sc_sched.specs.PrioritySchedules.{kind_names, rooms, shop_of_gates, NoneIsWider}
+use Rattle.sc_sched.specs.PrioritySchedules.{shop_of_gates, NoneIsWider}
 use Rattle.sc_sched.specs.Laid.{IsLaid}
 use Rattle.sc_sched.proofs.Count.{count_below_same}
 use Rattle.sc_sched.proofs.Step.{needed_same, fits_same}

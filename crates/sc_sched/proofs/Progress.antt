@@ -23,7 +23,7 @@ use Rattle.sc_sched.specs.Rounds.{shop_of, stands}
 use Rattle.sc_sched.specs.Neighbours.{numbers_by, each, holds, neighbours_at, AreLast, AreNext}
 use Rattle.sc_sched.proofs.Count.{and_left, and_right, both, either, or_left, or_right, same_truth, count_below_lt}
 use Rattle.sc_sched.proofs.Step.{tried_same}
-use Rattle.sc_sched.proofs.Schedule.{cut_same, all_same, filter_push, not_true}
+use Rattle.sc_sched.proofs.SameSchedules.{cut_same, all_same, filter_push, not_true}
 use Rattle.sc_sched.proofs.Stands.{stands_cut}
 use Rattle.sc_sched.proofs.Build.{Follows, no_split, first_of, rest_of, some_ready, some_chosen, placed_more, all_at}
 use Rattle.sc_sched.proofs.Lawful.{FirstIn, first_in, shop_of_gates_is}

@@ -17,3 +17,7 @@ pub mod Cutters
 pub mod Neighbours
 pub mod Waiting
 pub mod Placing
+pub mod Numbering
+pub mod Places
+pub mod Scheduling
+pub mod NumberTree

@@ -4,6 +4,10 @@ ghost use Rattle.sc_sched.specs.Board.{layout_of, waits};
 ghost use Rattle.sc_sched.specs.Laid.{rank_at, before_by, IsLaid};
 
 use crate::board::Board;
+use crate::kinds::{Kinds, number_kinds};
+use crate::numbers::NumberSet;
+use crate::places::{in_order, inverse};
+use crate::slots::{Slots, fill_slots};
 use crate::{Priority, Rank};
 use sc_base::Memory;
 use sc_gate::Gate;
@@ -30,10 +34,23 @@ pub(crate) fn lay_out<P: Priority>(
     ensures laid { IfOk result (λ laid. IsLaid gates.now d (before_by (P.comes order.now) ranks.now) (layout_of laid.board) laid.room.items) }
     ensures waits { IfOk result (λ laid. (x : ℕ) → x < length gates.now → waits laid.board x ≡ false) }
 {
-    let _ = alloc;
-    let _ = gates;
-    let _ = ranks;
-    let _ = order;
-    let _ = d;
-    Err(Memory)
+    let Kinds { kind, room } = number_kinds(alloc, gates, d)?;
+    let gate_at = in_order(alloc, ranks, order)?;
+    let place = inverse(alloc, &gate_at)?;
+    let Slots {
+        gate_in,
+        slot,
+        start,
+    } = fill_slots(alloc, &gate_at, &kind, room.len())?;
+    let board = Board {
+        gate_at,
+        place,
+        gate_in,
+        slot,
+        kind,
+        start,
+        places: NumberSet::new(alloc, gates.len())?,
+        slots: NumberSet::new(alloc, gates.len())?,
+    };
+    Ok(Laid { board, room })
 }

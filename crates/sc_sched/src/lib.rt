@@ -4,6 +4,7 @@
 mod board;
 mod cutting;
 mod groups;
+mod kinds;
 mod laws;
 mod layout;
 mod narrow;
@@ -11,9 +12,12 @@ mod neighbours;
 mod numbers;
 mod order;
 mod placing;
+mod places;
 mod plan;
 mod ranks;
 mod round;
+mod scheduling;
+mod slots;
 mod taking;
 #[cfg(test)]
 mod tests;
@@ -25,5 +29,6 @@ mod wires;
 pub use laws::{at_most_one_schedule, order_is_lawful, some_schedule};
 pub use order::{Lpfs, Priority, Rank, Rcp};
 pub use plan::{Plan, Region, Step};
+pub use scheduling::{SchedFault, schedule};
 pub use text::write_schedule;
 pub use wires::WireTable;

@@ -1,4 +1,4 @@
-use Rattle.std.proofs.Common.{◌≡◌, ℕ, ◌+◌, ◌<◌, ◌≤◌, List, length, get_or, below_more, arith}
+use Rattle.std.proofs.Common.{◌≡◌, ℕ, ◌<◌, ◌≤◌, List, length, get_or, below_more, arith}
 use Rattle.std.proofs.lemmas.List.{get_or-map}
 use Rattle.sc_gate.specs.declared.gate.Gate.{Gate}
 use Rattle.sc_sched.specs.Gates.{arity_of, arity_at}
