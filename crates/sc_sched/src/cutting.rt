@@ -47,7 +47,8 @@ impl Cutter {
         for x in step {
             self.marks.put(*x as usize, true);
         }
-        self.groups.gather(alloc, &mut self.marks, board.kind.as_slice())?;
+        self.groups
+            .gather(alloc, &mut self.marks, board.kind.as_slice())?;
         let regions = self.groups.regions(alloc, room)?;
         self.groups.clear();
         Ok(regions)
