@@ -123,15 +123,15 @@ pub split_at : {A : Type 0} (xs : List A) (i : ℕ) (d : A) → i < length xs �
 split_at xs i d l = sym (take-append-drop i xs) ∙ ap (λ (z : List _). take i xs ++ z) (drop-cons xs i d l)
 
 -- the first step in which a position stands
-record FirstIn (steps : List Step) (x : ℕ) : Type 0 where
-  earlier : List Step
-  step : Step
-  later : List Step
-  is : steps ≡ earlier ++ step ∷ later
-  stands : stands_in step x ≡ true
-  number : step_of steps x ≡ length earlier
+pub record FirstIn (steps : List Step) (x : ℕ) : Type 0 where
+  pub earlier : List Step
+  pub step : Step
+  pub later : List Step
+  pub is : steps ≡ earlier ++ step ∷ later
+  pub stands : stands_in step x ≡ true
+  pub number : step_of steps x ≡ length earlier
 
-first_in : (steps : List Step) (x : ℕ) → placed steps x ≡ true → FirstIn steps x
+pub first_in : (steps : List Step) (x : ℕ) → placed steps x ≡ true → FirstIn steps x
 first_in [] x h = absurd (false≢true h)
 first_in (s ∷ steps) x h = elim (cases_Bool (stands_in s x)) [
   | inl t ↦ record { earlier = []; step = s; later = steps; is = refl; stands = t; number = rw t refl }

@@ -28,3 +28,7 @@ pub mod PlaceLemmas
 pub mod SlotLemmas
 pub mod SlotSteps
 pub mod Layouts
+pub mod Grouping
+pub mod NextGates
+pub mod Freeing
+pub mod Progress

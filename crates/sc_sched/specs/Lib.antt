@@ -14,3 +14,8 @@ pub mod Board
 pub mod Laid
 pub mod Numbering
 pub mod Places
+pub mod Groups
+pub mod Cutters
+pub mod Neighbours
+pub mod Waiting
+pub mod Placing

@@ -2,13 +2,17 @@
 #![tactic(auto)]
 
 mod board;
+mod cutting;
+mod groups;
 mod kinds;
 mod laws;
 mod layout;
 mod narrow;
+mod neighbours;
 mod numbers;
 mod order;
 mod places;
+mod placing;
 mod plan;
 mod ranks;
 mod round;
@@ -18,6 +22,7 @@ mod taking;
 mod tests;
 mod text;
 mod tray;
+mod waiting;
 mod wires;
 
 pub use laws::{at_most_one_schedule, order_is_lawful, some_schedule};
