@@ -8,7 +8,7 @@ use Rattle.sc_sched.specs.Legal.{Step, placed, stands_in}
 use Rattle.sc_sched.specs.Schedule.{all_below, ready, cut, IsPriority}
 use Rattle.sc_sched.proofs.Count.{and_left, and_right, both, or_left, or_right, count_below_lt}
 use Rattle.sc_sched.proofs.Step.{tried_same, pick, step_exists, fits_same, count_all}
-use Rattle.sc_sched.proofs.Schedule.{cut_same, not_true}
+use Rattle.sc_sched.proofs.SameSchedules.{cut_same, not_true}
 use Rattle.sc_sched.proofs.Take.{with_gate, needed_with}
 use Rattle.sc_sched.proofs.Cut.{all_zero, div_none}
 use Rattle.sc_sched.proofs.Stands.{stands_cut, count_some}
@@ -65,14 +65,14 @@ not_yes true h = absurd (false≢true h)
 not_yes false h = refl
 
 -- the lowest gate that is left is ready
-some_ready : {K : Type 0} (s : Shop K) (earlier : List Step) → all_below (placed earlier) s.gates ≡ false → (x : ℕ) × (x < s.gates) × (ready s earlier x ≡ true)
+pub some_ready : {K : Type 0} (s : Shop K) (earlier : List Step) → all_below (placed earlier) s.gates ≡ false → (x : ℕ) × (x < s.gates) × (ready s earlier x ≡ true)
 some_ready s earlier h = elim (search_below (λ x. not (placed earlier x)) s.gates) [
   | inl t ↦ (t.0, t.1, both _ _ t.2 (all_true _ t.0 (λ y l. or_right (not (s.shares y t.0)) _ (not_false _ (t.3 y l)))))
   | inr none ↦ absurd (false≢true (sym h ∙ all_true _ s.gates (λ y l. not_false _ (none y l))))
 ]
 
 -- a step of a rule with a ready gate is not empty
-some_chosen : {K : Type 0} (s : Shop K) (o : IsShop s) (free c : ℕ → Bool) → 1 ≤ s.regions → IsStep s free c → (x : ℕ) → x < s.gates → free x ≡ true → (y : ℕ) × (y < s.gates) × (c y ≡ true)
+pub some_chosen : {K : Type 0} (s : Shop K) (o : IsShop s) (free c : ℕ → Bool) → 1 ≤ s.regions → IsStep s free c → (x : ℕ) → x < s.gates → free x ≡ true → (y : ℕ) × (y < s.gates) × (c y ≡ true)
 some_chosen s o free c r h x b f = elim (search_below c s.gates) [
   | inl t ↦ (t.0, t.1, t.2)
   | inr none ↦ absurd (false≢true (sym (none x b) ∙ (h.exact x b ∙ both _ _ f
@@ -107,11 +107,11 @@ unfoldable pub build : {K : Type 0} → Shop K → ℕ → List Step → List St
 build s zero earlier = []
 build s (suc m) earlier = cond (all_below (placed earlier) s.gates) [] (next_step s earlier ∷ build s m (earlier ++ next_step s earlier ∷ []))
 
-first_of : Step → List Step → Step
+unfoldable pub first_of : Step → List Step → Step
 first_of d [] = d
 first_of d (x ∷ xs) = x
 
-rest_of : List Step → List Step
+unfoldable pub rest_of : List Step → List Step
 rest_of [] = []
 rest_of (x ∷ xs) = xs
 
@@ -119,7 +119,7 @@ is_none : List Step → Bool
 is_none [] = true
 is_none (x ∷ xs) = false
 
-no_split : (a b : List Step) (step : Step) → [] ≡ a ++ step ∷ b → ⊥
+pub no_split : (a b : List Step) (step : Step) → [] ≡ a ++ step ∷ b → ⊥
 unfolding is_none
 no_split [] b step e = false≢true (sym (ap is_none e))
 no_split (x ∷ a) b step e = false≢true (sym (ap is_none e))
@@ -147,7 +147,7 @@ build_follows s p o r (suc m) earlier a step b e = elim (cases_Bool (all_below (
 left_of : {K : Type 0} → Shop K → List Step → ℕ
 left_of s earlier = count_below (λ x. not (placed earlier x)) s.gates
 
-placed_more : (earlier later : List Step) (x : ℕ) → placed earlier x ≡ true → placed (earlier ++ later) x ≡ true
+pub placed_more : (earlier later : List Step) (x : ℕ) → placed earlier x ≡ true → placed (earlier ++ later) x ≡ true
 placed_more earlier later x h = list_any-append (λ step. stands_in step x) earlier later ∙ or_left _ _ h
 
 fewer_left : {K : Type 0} (s : Shop K) (p : IsOrder s) (o : IsShop s) → 1 ≤ s.regions → (earlier : List Step) → all_below (placed earlier) s.gates ≡ false → left_of s (earlier ++ next_step s earlier ∷ []) < left_of s earlier

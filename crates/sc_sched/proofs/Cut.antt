@@ -14,7 +14,7 @@ use Rattle.sc_sched.proofs.Take.{sum_same, quotient, mul_add}
 use Rattle.sc_sched.proofs.Free.{fun_same}
 use Rattle.sc_sched.specs.Step.{count_below, div_up, Shop, size, needed, IsShop, IsListed}
 use Rattle.sc_sched.specs.Schedule.{all_below, positions, pieces, of_kind, leads, cut}
-use Rattle.sc_sched.proofs.Schedule.{filter_push}
+use Rattle.sc_sched.proofs.SameSchedules.{filter_push}
 
 pub add_none : (n : ℕ) → n + 0 ≡ n
 add_none n = omega arith

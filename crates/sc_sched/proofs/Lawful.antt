@@ -27,26 +27,26 @@ use Rattle.sc_sched.specs.Ranks.{timed_gates, IsRank}
 use Rattle.sc_sched.proofs.Shops.{Among, among}
 
 -- the kind and the room of a gate of the list
-kind_here : (gates : List Gate) (x : ℕ) (g : Gate) → x < length gates → kind_at gates x ≡ Some (kind_of (get_or gates x g))
+pub kind_here : (gates : List Gate) (x : ℕ) (g : Gate) → x < length gates → kind_at gates x ≡ Some (kind_of (get_or gates x g))
 kind_here [] x g l = absurd (omega (arith, l))
 kind_here (h ∷ gates) zero g l = refl
 kind_here (h ∷ gates) (suc x) g l = kind_here gates x g (omega (arith, l))
 
-index_map : (f : Gate → ℕ) (gates : List Gate) (x d : ℕ) (g : Gate) → x < length gates → slice_index_or (map f gates) x d ≡ f (get_or gates x g)
+pub index_map : (f : Gate → ℕ) (gates : List Gate) (x d : ℕ) (g : Gate) → x < length gates → slice_index_or (map f gates) x d ≡ f (get_or gates x g)
 index_map f [] x d g l = absurd (omega (arith, l))
 index_map f (h ∷ gates) zero d g l = refl
 index_map f (h ∷ gates) (suc x) d g l = index_map f gates x d g (omega (arith, l))
 
-some_gate : (gates : List Gate) (x : ℕ) → x < length gates → Gate
+pub some_gate : (gates : List Gate) (x : ℕ) → x < length gates → Gate
 some_gate [] x l = absurd (omega (arith, l))
 some_gate (h ∷ gates) x l = h
 
 -- the first position of the kind of a gate has a gate of that kind
-record NamesKind (gates : List Gate) (x : ℕ) : Type 0 where
-  below : slice_index (kind_names gates) x < length gates
-  same : kind_at gates (slice_index (kind_names gates) x) ≡ kind_at gates x
+pub record NamesKind (gates : List Gate) (x : ℕ) : Type 0 where
+  pub below : slice_index (kind_names gates) x < length gates
+  pub same : kind_at gates (slice_index (kind_names gates) x) ≡ kind_at gates x
 
-names_kind : (gates : List Gate) (x : ℕ) → x < length gates → NamesKind gates x
+pub names_kind : (gates : List Gate) (x : ℕ) → x < length gates → NamesKind gates x
 names_kind gates x l =
     let d : Gate = some_gate gates x l in
     let g : Gate = get_or gates x d in
@@ -75,6 +75,13 @@ arity_by_kind [] x = refl
 arity_by_kind (h ∷ gates) zero = refl
 arity_by_kind (h ∷ gates) (suc x) = arity_by_kind gates x
 
+pub arity_alike : (gates : List Gate) (x y : ℕ) → kind_at gates x ≡ kind_at gates y → arity_at gates x ≡ arity_at gates y
+arity_alike gates x y h = arity_by_kind gates x ∙ (ap arity_or h ∙ sym (arity_by_kind gates y))
+
+pub arity_of_kind : (gates : List Gate) (x : ℕ) (k : Kind) → kind_at gates x ≡ Some k → arity_at gates x ≡ qubits_of (name_of k)
+unfolding arity_or
+arity_of_kind gates x k h = arity_by_kind gates x ∙ ap arity_or h
+
 qubits_some : (n : GateName) → 1 ≤ qubits_of n
 qubits_some Cnot = omega arith
 qubits_some Toffoli = omega arith
@@ -84,7 +91,7 @@ qubits_some _ = omega arith
 arity_some : (gates : List Gate) (x : ℕ) → x < length gates → 1 ≤ arity_at gates x
 arity_some gates x l = rw (index_map arity_of gates x 0 (some_gate gates x l) l) (qubits_some _)
 
-room_is : (gates : List Gate) (d x : ℕ) → x < length gates → slice_index_or (rooms d gates) x 1 ≡ d / arity_at gates x
+pub room_is : (gates : List Gate) (d x : ℕ) → x < length gates → slice_index_or (rooms d gates) x 1 ≡ d / arity_at gates x
 room_is gates d x l = index_map (room_for d) gates x 1 (some_gate gates x l) l ∙ ap (λ (n : ℕ). d / n) (sym (index_map arity_of gates x 0 (some_gate gates x l) l))
 
 length_rooms : (d : ℕ) (gates : List Gate) → length (rooms d gates) ≡ length gates
@@ -97,7 +104,7 @@ div_some d a l h = elim (cases_lt 0 (d / a)) [
   | inr g ↦ (let z : d / a ≡ 0 = omega (arith, g) in let e : a * (d / a) ≡ a * 0 = ap (λ (n : ℕ). a * n) z in absurd (omega (arith, e, l, h)))
 ]
 
-room_some : (gates : List Gate) (d : ℕ) → NoneIsWider d gates → (kind : ℕ) → 0 < slice_index_or (rooms d gates) kind 1
+pub room_some : (gates : List Gate) (d : ℕ) → NoneIsWider d gates → (kind : ℕ) → 0 < slice_index_or (rooms d gates) kind 1
 room_some gates d h kind = elim (cases_lt kind (length gates)) [
   | inl l ↦ rw (room_is gates d kind l) (div_some d (arity_at gates kind) (arity_some gates kind l) (h kind l))
   | inr g ↦ (let past : length (rooms d gates) ≤ kind = omega (arith, g, length_rooms d gates) in rw (get_or-eq_default (rooms d gates) 1 past) (omega arith))
@@ -116,15 +123,15 @@ pub split_at : {A : Type 0} (xs : List A) (i : ℕ) (d : A) → i < length xs �
 split_at xs i d l = sym (take-append-drop i xs) ∙ ap (λ (z : List _). take i xs ++ z) (drop-cons xs i d l)
 
 -- the first step in which a position stands
-record FirstIn (steps : List Step) (x : ℕ) : Type 0 where
-  earlier : List Step
-  step : Step
-  later : List Step
-  is : steps ≡ earlier ++ step ∷ later
-  stands : stands_in step x ≡ true
-  number : step_of steps x ≡ length earlier
+pub record FirstIn (steps : List Step) (x : ℕ) : Type 0 where
+  pub earlier : List Step
+  pub step : Step
+  pub later : List Step
+  pub is : steps ≡ earlier ++ step ∷ later
+  pub stands : stands_in step x ≡ true
+  pub number : step_of steps x ≡ length earlier
 
-first_in : (steps : List Step) (x : ℕ) → placed steps x ≡ true → FirstIn steps x
+pub first_in : (steps : List Step) (x : ℕ) → placed steps x ≡ true → FirstIn steps x
 first_in [] x h = absurd (false≢true h)
 first_in (s ∷ steps) x h = elim (cases_Bool (stands_in s x)) [
   | inl t ↦ record { earlier = []; step = s; later = steps; is = refl; stands = t; number = rw t refl }

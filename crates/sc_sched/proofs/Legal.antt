@@ -9,7 +9,7 @@ use Rattle.sc_sched.proofs.Count.{and_left, and_right, both, either, or_left, or
 use Rattle.sc_sched.proofs.Step.{place, place_lt, needed_same, count_all, pick, step_unique, step_exists}
 use Rattle.sc_sched.proofs.Cut.{length_cut}
 use Rattle.sc_sched.proofs.Build.{search_below, needed_none, all_at, build, next_step}
-use Rattle.sc_sched.proofs.Schedule.{cut_same}
+use Rattle.sc_sched.proofs.SameSchedules.{cut_same}
 
 fits_le : {K : Type 0} (s : Shop K) (c : ℕ → Bool) → fits s c ≡ true → needed s c ≤ s.regions
 unfolding fits

@@ -1,7 +1,7 @@
 pub mod Count
 pub mod Step
 pub mod Fill
-pub mod Schedule
+pub mod SameSchedules
 pub mod Take
 pub mod Free
 pub mod Cut
@@ -19,3 +19,17 @@ pub mod OneSchedule
 pub mod Lawful
 pub mod RankLemmas
 pub mod SomeRank
+pub mod LaidSteps
+pub mod Grouping
+pub mod NextGates
+pub mod Freeing
+pub mod Progress
+pub mod HeaviestChains
+pub mod RanksAre
+pub mod RankSteps
+pub mod KindNumbers
+pub mod PlaceLemmas
+pub mod SlotLemmas
+pub mod SlotSteps
+pub mod Layouts
+pub mod NumberTrees

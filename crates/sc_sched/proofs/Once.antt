@@ -11,7 +11,7 @@ use Rattle.sc_sched.specs.Step.{count_below, Shop, size, IsShop, IsListed}
 use Rattle.sc_sched.specs.Legal.{times_in, Step, stands_in, placed}
 use Rattle.sc_sched.specs.Schedule.{positions, pieces, of_kind, leads, cut, ready, IsPriority}
 use Rattle.sc_sched.proofs.Count.{and_left}
-use Rattle.sc_sched.proofs.Schedule.{filter_push, not_true}
+use Rattle.sc_sched.proofs.SameSchedules.{filter_push, not_true}
 use Rattle.sc_sched.proofs.Step.{count_all}
 use Rattle.sc_sched.proofs.Cut.{one_leader, length_of_kind, add_none, some_of, leaders_by_kind, one_times, all_zero}
 use Rattle.sc_sched.proofs.Fill.{sum_apart}

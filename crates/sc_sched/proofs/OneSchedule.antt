@@ -10,7 +10,7 @@ use Rattle.sc_sched.specs.Step.{size, needed, fits, beside, IsStep, IsOrder}
 use Rattle.sc_sched.specs.Schedule.{ready, cut, IsPriority}
 use Rattle.sc_sched.specs.PrioritySchedules.{shop_of_gates, IsPrioritySchedule, IsRankOrder}
 use Rattle.sc_sched.proofs.Step.{fits_same}
-use Rattle.sc_sched.proofs.Schedule.{one_schedule}
+use Rattle.sc_sched.proofs.SameSchedules.{one_schedule}
 
 some_same : (a b : ℕ) → Some a ≡ Some b → a ≡ b
 some_same a b h = cc

@@ -1,5 +1,5 @@
 -- The kinds of a tray, and the end of a step.
-use Rattle.std.proofs.Common.{◌≡◌, ℕ, zero, suc, ◌+◌, ◌%◌, ◌<◌, ◌≤◌, Bool, true, false, cond, List, [], ◌∷◌, ◌++◌, length, refl, sym, ◌∙◌, arith, rules, inl, inr, ◌&&◌, not}
+use Rattle.std.proofs.Common.{◌≡◌, ℕ, zero, suc, ◌+◌, ◌%◌, ◌<◌, ◌≤◌, Bool, true, false, cond, List, [], ◌∷◌, ◌++◌, length, refl, sym, ap, ◌∙◌, arith, rules, inl, inr, ◌&&◌, not}
 use Rattle.std.specs.Prelude.{◌==◌, slice_index, slice_index_or, slice_set}
 use Rattle.std.proofs.lemmas.Bool.{false≢true, cases_lt, cases_eq, eqb-true, eq-eqb}
 use Rattle.std.proofs.lemmas.List.{get_or-set_same, get_or-set_other, length-set, get_or_default}
@@ -82,3 +82,36 @@ all_full kind room first used kinds waits at eu ef o l rest inside done x b w = 
           rw e at (done i (omega (arith, m, l)) x b (sym e) w))
       | inr g ↦ rw (rest (slice_index kind x) (omega (arith, g))) (no_rest (slice_index room (slice_index kind x)))
     ])
+
+-- counts grow, but not from 0
+pub opened_same : (kinds used kinds' used' : List ℕ) → Opened kinds used → kinds' ≡ kinds → length used' ≡ length used → ((k : ℕ) → slice_index used k ≤ slice_index used' k) → ((k : ℕ) → slice_index used k ≡ 0 → slice_index used' k ≡ 0) → Opened kinds' used'
+opened_same kinds used kinds' used' o ek many grows rest = rw ek (record {
+  listed = λ k l p. o.listed k (omega (arith, l, many)) (elim (cases_lt 0 (slice_index used k)) [ inl m ↦ m | inr g ↦ absurd (omega (arith, p, rest k (omega (arith, g)))) ]);
+  live = λ k h. (let r : (k < length used) × (0 < slice_index used k) = o.live k h in (omega (arith, r.0, many), omega (arith, r.1, grows k)));
+})
+
+-- the count of the last kind is 0 again
+pub record Listed (kinds used : List ℕ) (kind : ℕ) : Type 0 where
+  pub below : kind < length used
+  pub inside : (k : ℕ) → stands kinds k ≡ true → k < length (slice_set used kind 0)
+  pub listed : (k : ℕ) → k < length (slice_set used kind 0) → 0 < slice_index (slice_set used kind 0) k → stands kinds k ≡ true
+
+pub listed_less : (kinds used : List ℕ) (kind : ℕ) → ((k : ℕ) → stands (kinds ++ kind ∷ []) k ≡ true → k < length used) →
+    ((k : ℕ) → k < length used → 0 < slice_index used k → stands (kinds ++ kind ∷ []) k ≡ true) → Listed kinds used kind
+listed_less kinds used kind inside listed =
+    let b : kind < length used = inside kind (list_any-append (λ x. kind == x) kinds (kind ∷ []) ∙ or_right (stands kinds kind) _ (or_left _ false (eq-eqb kind kind refl))) in
+    record {
+      below = b;
+      inside = λ k h. rw (length-set used kind 0) (inside k (list_any-append (λ x. k == x) kinds (kind ∷ []) ∙ or_left _ _ h));
+      listed = λ k l p. elim (cases_eq k kind) [
+        | inl q ↦ absurd (omega (arith, p, ap (slice_index (slice_set used kind 0)) q ∙ get_or-set_same used kind 0 0 b))
+        | inr n ↦ elim (either (stands kinds k) _ (sym (list_any-append (λ x. k == x) kinds (kind ∷ [])) ∙ listed k (rw (length-set used kind 0) at l) (rw (get_or-set_other used kind k 0 0 n) at p))) [
+          | inl t ↦ t
+          | inr t ↦ elim (either (k == kind) false t) [ inl w ↦ absurd (n (eqb-true k kind w)) | inr w ↦ absurd (false≢true w) ]
+        ]
+      ];
+    }
+
+pub none_listed : (kinds used : List ℕ) (k : ℕ) → length kinds ≡ 0 → k < length used → ((k : ℕ) → k < length used → 0 < slice_index used k → stands kinds k ≡ true) → slice_index used k ≡ 0
+none_listed [] used k e l listed = elim (cases_lt 0 (slice_index used k)) [ inl p ↦ absurd (false≢true (listed k l p)) | inr g ↦ omega (arith, g) ]
+none_listed (x ∷ kinds) used k e l listed = absurd (omega (arith, e))

@@ -42,12 +42,12 @@ all_flat : {A B : Type 0} (P : B → Type 0) (f : A → List B) (xs : List A) �
 all_flat P f [] h = All-nil P
 all_flat P f (x ∷ xs) h = All-append P (f x) (flat_map f xs) (h x) (all_flat P f xs h)
 
-positions_below : (n : ℕ) → All (λ y. y < n) (positions n)
+pub positions_below : (n : ℕ) → All (λ y. y < n) (positions n)
 positions_below zero = All-nil (λ y. y < 0)
 positions_below (suc n) = All-append (λ y. y < suc n) (positions n) (n ∷ []) (All-weaker (λ y. y < n) (λ y. y < suc n) (λ y l. omega (arith, l)) (positions n) (positions_below n))
     (All-cons (λ y. y < suc n) n [] (omega arith) (All-nil (λ y. y < suc n)))
 
-all_filter : (P : ℕ → Type 0) (test : ℕ → Bool) (xs : List ℕ) → All P xs → All (λ y. P y × (test y ≡ true)) (filter test xs)
+pub all_filter : (P : ℕ → Type 0) (test : ℕ → Bool) (xs : List ℕ) → All P xs → All (λ y. P y × (test y ≡ true)) (filter test xs)
 all_filter P test [] h = All-nil (λ y. P y × (test y ≡ true))
 all_filter P test (x ∷ xs) h = elim (cases_Bool (test x)) [
   | inl t ↦ rw t (All-cons (λ y. P y × (test y ≡ true)) x (filter test xs) (h 0 x (omega arith), t) (all_filter P test xs (λ k d l. h (suc k) d (omega (arith, l)))))

@@ -9,7 +9,7 @@ use Rattle.sc_sched.specs.Step.{count_below, Shop, size, IsShop}
 use Rattle.sc_sched.specs.Legal.{stands_in}
 use Rattle.sc_sched.specs.Schedule.{positions, pieces, of_kind, leads, cut}
 use Rattle.sc_sched.proofs.Count.{and_left, and_right, both, or_left, or_right, count_below_lt}
-use Rattle.sc_sched.proofs.Schedule.{filter_push}
+use Rattle.sc_sched.proofs.SameSchedules.{filter_push}
 use Rattle.sc_sched.proofs.Step.{count_all}
 use Rattle.sc_sched.proofs.Cut.{one_leader, length_of_kind, add_none, some_of}
 use Rattle.sc_sched.proofs.Free.{fun_same}

@@ -11,3 +11,13 @@ pub mod Laws
 pub mod Layout
 pub mod Rounds
 pub mod Board
+pub mod Laid
+pub mod Groups
+pub mod Cutters
+pub mod Neighbours
+pub mod Waiting
+pub mod Placing
+pub mod Numbering
+pub mod Places
+pub mod Scheduling
+pub mod NumberTree

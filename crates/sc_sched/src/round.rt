@@ -25,6 +25,7 @@ pub fn take_free(
     ensures used { OnOk result (length tray.new.used.items ≡ length tray.old.used.items) }
     ensures free { IfOk result (λ free. Free (shop_of (layout_of board.old) room.now regions) (waits board.old) (waits board.new) (stands tray.new.step.items) tray.new.used.items free) }
     ensures opened { OnOk result (Opened tray.new.kinds.items tray.new.used.items) }
+    ensures inside { OnOk result (((z : ℕ) → stands tray.old.step.items z ≡ true → z < length board.old.kind.items) → (z : ℕ) → stands tray.new.step.items z ≡ true → z < length board.old.kind.items) }
     ensures ends { IfOk result (λ free. 0 < free → (z : ℕ) → z < length board.old.kind.items → waits board.new z ≡ false) }
 {
     let mut free = regions;
@@ -51,6 +52,7 @@ pub fn fill_kind(board: &mut Board, tray: &mut Tray, room: &[u32], kind: u32) ->
     ensures others { OnOk result ((k : ℕ) → k ≢ kind → slice_index tray.new.used.items k ≡ slice_index tray.old.used.items k) }
     ensures more { OnOk result (slice_index tray.old.used.items kind ≤ slice_index tray.new.used.items kind) }
     ensures kinds { OnOk result (0 < slice_index tray.old.used.items kind → tray.new.kinds.items ≡ tray.old.kinds.items) }
+    ensures inside { OnOk result (((z : ℕ) → stands tray.old.step.items z ≡ true → z < length board.old.kind.items) → (z : ℕ) → stands tray.new.step.items z ≡ true → z < length board.old.kind.items) }
     ensures fewer { OnOk result ((z : ℕ) → z < length board.old.kind.items → waits board.new z ≡ true → waits board.old z ≡ true) }
     ensures full { OnOk result ((z : ℕ) → z < length board.old.kind.items → slice_index board.old.kind.items z ≡ kind → waits board.new z ≡ true → slice_index tray.new.used.items kind % slice_index room.now kind ≡ 0) }
     ensures fill { OnOk result ((regions : ℕ) (ready taken : ℕ → Bool) → Fill (shop_of (layout_of board.old) room.now regions) ready (waits board.old) taken (stands tray.old.step.items) tray.old.used.items → Fill (shop_of (layout_of board.old) room.now regions) ready (waits board.new) taken (stands tray.new.step.items) tray.new.used.items) }
@@ -81,6 +83,8 @@ pub fn take_step(
     ensures layout { OnOk result (layout_of board.new ≡ layout_of board.old) }
     ensures used { OnOk result (length tray.new.used.items ≡ length tray.old.used.items) }
     ensures step { OnOk result (IsStep (shop_of (layout_of board.old) room.now regions) (waits board.old) (stands tray.new.step.items)) }
+    ensures inside { OnOk result (((z : ℕ) → stands tray.old.step.items z ≡ true → z < length board.old.kind.items) → (z : ℕ) → stands tray.new.step.items z ≡ true → z < length board.old.kind.items) }
+    ensures opened { OnOk result (Opened tray.new.kinds.items tray.new.used.items) }
     ensures counted { OnOk result (Counted (shop_of (layout_of board.old) room.now regions) (waits board.old) (waits board.new) (stands tray.new.step.items) tray.new.used.items) }
 {
     let free = take_free(board, tray, room, regions)?;

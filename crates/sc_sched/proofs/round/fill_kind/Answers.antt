@@ -5,6 +5,7 @@ use Rattle.sc_sched.specs.Step.{Shop}
 use Rattle.sc_sched.specs.Rounds.{shop_of, stands, Fill}
 use Rattle.sc_sched.proofs.Free.{fill_more, size_few, waits_fewer, index_is, not_zero}
 use Rattle.sc_sched.proofs.Count.{and_right}
+use Rattle.sc_sched.proofs.Freeing.{inside_more}
 use Rattle.std.proofs.lemmas.List.{get_or-set_same, get_or-set_other}
 use Rattle.sc_sched.proofs.round.fill_kind.Goals as goal
 
@@ -34,6 +35,7 @@ loop-board-preserved c =
       others = λ j n. rw c.in_ok-put.ensures.used (get_or-set_other c.loop-board.tray.used.items c.args.kind j (slice_index c.loop-board.tray.used.items c.args.kind + 1) 0 n ∙ c.loop-board.invariant.others j n);
       more = rw (c.in_ok-put.ensures.used, get_or-set_same c.loop-board.tray.used.items c.args.kind (slice_index c.loop-board.tray.used.items c.args.kind + 1) 0 k) (omega (arith, c.loop-board.invariant.more));
       kinds = λ h. c.in_ok-put.ensures.kinds ∙ rw (not_zero (slice_index c.loop-board.tray.used.items c.args.kind) (λ z. omega (arith, z, h, c.loop-board.invariant.more))) (c.loop-board.invariant.kinds h);
+      inside = λ h. inside_more c.loop-board.tray.step.items c.put.new.self.step.items c.in-Some.x (length c.args.board.now.kind.items) c.in_ok-put.ensures.step b (c.loop-board.invariant.inside h);
       fewer = λ z d h. c.loop-board.invariant.fewer z d (and_right (not (z == c.in-Some.x)) _ (sym (c.in-Some.ensures.rest z (rw e d)) ∙ h));
       fill = λ regions ready taken f. fill_more (layout_of c.args.board.now) c.args.room.now regions ready taken (waits c.loop-board.board) (waits c.take_of_kind.new.self) c.loop-board.tray.step.items c.loop-board.tray.used.items c.put.new.self.step.items c.put.new.self.used.items c.in-Some.x c.args.kind
           (c.loop-board.invariant.fill regions ready taken f) b c.in-Some.ensures.ready.1 (rw (← e) c.in-Some.ensures.ready.2) k c.requires.kind (λ z. c.loop-board-test.true (rw (index_is c.loop-board.tray.used.items c.loop-board.tray.used.items c.args.kind c.index.result.now c.index.ensures k refl) z))

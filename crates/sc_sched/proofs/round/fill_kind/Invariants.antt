@@ -11,6 +11,7 @@ invariant-loop-board l = record {
   others : (k : ℕ) → k ≢ l.kind → slice_index l.tray.used.items k ≡ slice_index l.fn.tray.used.items k;
   more : slice_index l.fn.tray.used.items l.kind ≤ slice_index l.tray.used.items l.kind;
   kinds : 0 < slice_index l.fn.tray.used.items l.kind → l.tray.kinds.items ≡ l.fn.tray.kinds.items;
+  inside : ((z : ℕ) → stands l.fn.tray.step.items z ≡ true → z < length l.fn.board.kind.items) → (z : ℕ) → stands l.tray.step.items z ≡ true → z < length l.fn.board.kind.items;
   fewer : (z : ℕ) → z < length l.fn.board.kind.items → waits l.board z ≡ true → waits l.fn.board z ≡ true;
   fill : (regions : ℕ) (ready taken : ℕ → Bool) → Fill (shop_of (layout_of l.fn.board) l.fn.room regions) ready (waits l.fn.board) taken (stands l.fn.tray.step.items) l.fn.tray.used.items → Fill (shop_of (layout_of l.fn.board) l.fn.room regions) ready (waits l.board) taken (stands l.tray.step.items) l.tray.used.items;
 }

@@ -5,6 +5,7 @@ use Rattle.sc_sched.specs.Step.{size}
 use Rattle.sc_sched.specs.Rounds.{shop_of, stands}
 use Rattle.sc_sched.proofs.Free.{take_free_more, size_few, waits_fewer, index_is}
 use Rattle.sc_sched.proofs.Open.{opened_more}
+use Rattle.sc_sched.proofs.Freeing.{inside_more}
 use Rattle.sc_sched.proofs.round.take_free.Goals as goal
 
 pub put-requires-clause-fits : goal.put-requires-clause-fits
@@ -38,6 +39,7 @@ loop-free-preserved c =
       layout = search rules;
       used = search rules;
       opened = opened_more c.loop-free.tray.kinds.items c.loop-free.tray.used.items c.put.new.self.kinds.items c.put.new.self.used.items (slice_index c.args.board.now.kind.items c.in-Some.x) c.loop-free.invariant.opened u (rw (← k) c.in_ok-opens.ensures.kinds) (rw (← k) c.in_ok-opens.ensures.used);
+      inside = λ h. inside_more c.loop-free.tray.step.items c.put.new.self.step.items c.in-Some.x (length c.args.board.now.kind.items) c.in_ok-opens.ensures.step b (c.loop-free.invariant.inside h);
       taken = take_free_more (layout_of c.args.board.now) c.args.room.now c.args.regions c.requires.shop (waits c.args.board.now) (waits c.loop-free.board) (waits c.take_first.new.self) c.loop-free.tray.step.items c.loop-free.tray.used.items c.put.new.self.step.items c.put.new.self.used.items c.loop-free.free c.in-Some.x c.in_ok-opens.opens
           c.loop-free.invariant.taken b c.in-Some.ensures.ready.1 u r c.loop-free-test.true
           (λ z d v n. rw (← p) (c.in-Some.ensures.first z (rw e d) v n)) (λ z d. c.in-Some.ensures.rest z (rw e d)) c.in_ok-opens.ensures.step (rw (← k) c.in_ok-opens.ensures.used) (rw (← k) c.in_ok-opens.ensures.opens);

@@ -4,7 +4,7 @@ use Rattle.sc_sched.specs.Board.{layout_of, waits}
 use Rattle.sc_sched.specs.Layout.{Layout}
 use Rattle.sc_sched.specs.Rounds.{shop_of, stands, Fill}
 use Rattle.sc_sched.proofs.Free.{index_is}
-use Rattle.sc_sched.proofs.Open.{free_ends, fill_ends, all_full, stands_at}
+use Rattle.sc_sched.proofs.Open.{free_ends, fill_ends, all_full, opened_same, stands_at}
 use Rattle.sc_sched.proofs.round.take_step.Goals as goal
 
 pub returns-then-free-gt0-clause-step : goal.returns-then-free-gt0-clause-step
@@ -46,6 +46,7 @@ loop-at-preserved c =
         | inl e ↦ absurd (omega (arith, live, ap (slice_index c.take_free.new.tray.used.items) (sym e) ∙ z))
         | inr n ↦ c.in_ok-fill_kind.ensures.others j n ∙ c.loop-at.invariant.rest j z
       ];
+      inside = λ h z t. rw ke at (c.in_ok-fill_kind.ensures.inside (λ y u. rw ke (c.loop-at.invariant.inside h y u)) z t);
       done = λ i l z d e w. elim (cases_eq (slice_index c.take_free.new.tray.kinds.items i) c.index-kind.result.now) [
         | inl q ↦ rw q (c.in_ok-fill_kind.ensures.full z (rw ke d) (rw ke (e ∙ q)) w)
         | inr n ↦ (let m : i < c.loop-at.at = elim (cases_lt i c.loop-at.at) [ inl y ↦ y | inr g ↦ absurd (n (ap (slice_index c.take_free.new.tray.kinds.items) (omega (arith, l, g)) ∙ sym k)) ] in
@@ -63,3 +64,6 @@ returns-clause-step c =
     fill_ends (shop_of (layout_of c.args.board.now) c.args.room.now c.args.regions) (waits c.args.board.now) (waits c.loop-at.board) (stands c.take_free.new.tray.step.items) (stands c.loop-at.tray.step.items) c.loop-at.tray.used.items c.loop-at.invariant.fill
     (λ x b. rw e (c.requires.kinds x b))
     (all_full c.args.board.now.kind.items c.args.room.now c.take_free.new.tray.used.items c.loop-at.tray.used.items c.take_free.new.tray.kinds.items (waits c.loop-at.board) c.loop-at.at e (c.in_ok-free.ensures.used ∙ sym c.loop-at.invariant.used) c.in_ok-free.ensures.opened (rw c.loop-at.invariant.kinds at l) c.loop-at.invariant.rest c.requires.kinds c.loop-at.invariant.done)
+
+pub returns-clause-opened : goal.returns-clause-opened
+returns-clause-opened c = opened_same c.take_free.new.tray.kinds.items c.take_free.new.tray.used.items c.loop-at.tray.kinds.items c.loop-at.tray.used.items c.in_ok-free.ensures.opened c.loop-at.invariant.kinds (c.loop-at.invariant.used ∙ sym c.in_ok-free.ensures.used) c.loop-at.invariant.grows c.loop-at.invariant.rest

@@ -10,6 +10,7 @@ invariant-loop-at l = record {
   kinds : l.tray.kinds.items ≡ l.initial.tray.kinds.items;
   grows : (k : ℕ) → slice_index l.initial.tray.used.items k ≤ slice_index l.tray.used.items k;
   rest : (k : ℕ) → slice_index l.initial.tray.used.items k ≡ 0 → slice_index l.tray.used.items k ≡ 0;
+  inside : ((z : ℕ) → stands l.fn.tray.step.items z ≡ true → z < length l.fn.board.kind.items) → (z : ℕ) → stands l.tray.step.items z ≡ true → z < length l.fn.board.kind.items;
   done : (i : ℕ) → i < l.at → (z : ℕ) → z < length l.fn.board.kind.items → slice_index l.fn.board.kind.items z ≡ slice_index l.initial.tray.kinds.items i → waits l.board z ≡ true → slice_index l.tray.used.items (slice_index l.initial.tray.kinds.items i) % slice_index l.fn.room (slice_index l.initial.tray.kinds.items i) ≡ 0;
   fill : Fill (shop_of (layout_of l.fn.board) l.fn.room l.fn.regions) (waits l.fn.board) (waits l.board) (stands l.initial.tray.step.items) (stands l.tray.step.items) l.tray.used.items;
 }

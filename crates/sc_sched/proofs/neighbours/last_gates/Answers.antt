@@ -1,0 +1,21 @@
+use Rattle.std.proofs.Common.{◌≡◌, ℕ, ◌+◌, ◌<◌, length, refl, sym, ap, ◌∙◌, arith, rules}
+use Rattle.std.proofs.lemmas.Option.{slice_get-get_or}
+use Rattle.sc_gate.specs.declared.gate.Gate.{Gate}
+use Rattle.sc_sched.specs.WireTables.{number_at}
+use Rattle.sc_sched.proofs.NextGates.{last_more, last_pushed, get_below}
+use Rattle.sc_sched.proofs.neighbours.last_gates.Goals as goal
+
+pub loop-x-preserved : goal.loop-x-preserved
+loop-x-preserved c = record {
+  table = λ w. last_more c.args.gates.now c.loop-x.x _ w _ _ c.loop-x-test.true (c.in_ok-put_gate.ensures w) (c.loop-x.invariant.table w);
+  many = search rules;
+  last = last_pushed c.args.gates.now c.loop-x.x _ (number_at c.loop-x.table) c.loop-x.last.items c.push.new.self.items c.of.result c.loop-x-test.true c.loop-x.invariant.many c.in_ok-push.ensures.items c.of.ensures c.loop-x.invariant.table c.loop-x.invariant.last;
+}
+
+pub returns : goal.returns
+returns c =
+    let all : c.loop-x.x ≡ length c.args.gates.now = omega (arith, c.loop-x-test.false, c.loop-x.auto.x-end) in
+    record {
+      many = c.loop-x.invariant.many ∙ all;
+      is = λ x gate e. (let b : x < length c.args.gates.now = get_below c.args.gates.now x gate e in c.loop-x.invariant.last x gate (omega (arith, b, all)) e);
+    }

@@ -1,0 +1,44 @@
+-- The gates next to each gate on its wires.
+use Rattle.std.specs.Prelude.{◌≡◌, ℕ, ◌<◌, ◌==◌, ◌&&◌, ◌||◌, Bool, true, false, Option, Some, None, List, length, slice_get, slice_index_or}
+use Rattle.sc_gate.specs.declared.gate.Wire.{Wire}
+use Rattle.sc_gate.specs.declared.gate.Gate.{Gate}
+use Rattle.sc_sched.specs.Gates.{has_wire, last_on}
+use Rattle.sc_sched.specs.declared.neighbours.Neighbours.{Neighbours}
+
+abbrev pub on_wire : (Wire → Option ℕ) → Option Wire → Option ℕ
+on_wire f None = None
+on_wire f (Some w) = f w
+
+-- the number of each operand of the gate
+abbrev pub numbers_by : (Wire → Option ℕ) → Gate → Neighbours
+numbers_by f gate = record { a = f gate.a; b = on_wire f gate.b; c = on_wire f gate.c }
+
+abbrev pub none_or : (ℕ → Bool) → Option ℕ → Bool
+none_or p None = true
+none_or p (Some x) = p x
+
+-- each number passes
+abbrev pub each : (ℕ → Bool) → Neighbours → Bool
+each p n = none_or p n.a && (none_or p n.b && none_or p n.c)
+
+abbrev pub is_number : Option ℕ → ℕ → Bool
+is_number None x = false
+is_number (Some y) x = y == x
+
+-- it is one of the numbers
+abbrev pub holds : Neighbours → ℕ → Bool
+holds n x = is_number n.a x || (is_number n.b x || is_number n.c x)
+
+abbrev pub neighbours_at : List Neighbours → ℕ → Neighbours
+neighbours_at all x = slice_index_or all x (record { a = None; b = None; c = None })
+
+-- for each gate the last gates before it on its wires
+pub record AreLast (gates : List Gate) (last : List Neighbours) : Type 0 where
+  pub many : length last ≡ length gates
+  pub is : (x : ℕ) (gate : Gate) → slice_get gates x ≡ Some gate → neighbours_at last x ≡ numbers_by (λ w. last_on gates w x) gate
+
+-- for each gate positions among which are the first gates after it on its wires
+pub record AreNext (gates : List Gate) (next : List Neighbours) : Type 0 where
+  pub many : length next ≡ length gates
+  pub inside : (p x : ℕ) → holds (neighbours_at next p) x ≡ true → x < length gates
+  pub found : (p x : ℕ) (w : Wire) → has_wire (slice_get gates x) w ≡ true → last_on gates w x ≡ Some p → holds (neighbours_at next p) x ≡ true
