@@ -16,7 +16,7 @@ use std::alloc::Global;
 mod tests;
 
 /// The most gates that one schedule may have.
-pub const MAX_GATES: usize = 4_194_304;
+const MAX_GATES: usize = 4_194_304;
 
 /// Why there is no schedule.
 #[derive(Clone, Copy, Debug, PartialEq, Eq)]
