@@ -1,0 +1,193 @@
+#!/usr/bin/env python3
+"""Times `schedule` at a quarter, a half and all of 4,194,304 gates, with its peak memory.
+
+usage: bench/schedule.py [CASE..]
+Builds a program in a folder that it drops again, on copies of sc_base, sc_gate and sc_sched. The cases are the names in
+CASES, by default all of them. `gates` makes the gates and no schedule: what it takes is part of each other case.
+"""
+import os, shutil, subprocess, sys, tempfile, time
+from pathlib import Path
+
+top = Path(__file__).resolve().parent.parent
+
+MOST = 4194304
+
+# The form of the gates, k, d and the order.
+CASES = {
+    'gates': ('apart', 0, 1, 'rcp'),
+    'apart_1_1': ('apart', 1, 1, 'rcp'),
+    'apart_4_4': ('apart', 4, 4, 'rcp'),
+    'apart_1000_1000': ('apart', 1000, 1000, 'rcp'),
+    'wide_1_1': ('wide', 1, 1, 'rcp'),
+    'wide_4_4': ('wide', 4, 4, 'lpfs'),
+    'angles_4_4': ('angles', 4, 4, 'rcp'),
+    'angles_1000_1000': ('angles', 1000, 1000, 'rcp'),
+    'chains_4_4': ('chains', 4, 4, 'rcp'),
+    'chains_4_4_lpfs': ('chains', 4, 4, 'lpfs'),
+    'chains_1000_1000': ('chains', 1000, 1000, 'rcp'),
+    'line_4_4': ('line', 4, 4, 'rcp'),
+    'mixed_4_4': ('mixed', 4, 4, 'rcp'),
+    'mixed_4_4_lpfs': ('mixed', 4, 4, 'lpfs'),
+    'mixed_1000_1000': ('mixed', 1000, 1000, 'rcp'),
+}
+
+MAIN_RT = '''//! Makes gates of a form, and their schedule: the words are the form, the number of gates, k, d and the order.
+#![tactic(auto)]
+
+use sc_base::{Class, Fixed};
+use sc_gate::{Gate, Kind, Times, Wire};
+use sc_sched::{Lpfs, Rcp, schedule};
+use std::alloc::{AllocError, Global};
+use std::env;
+use std::process::ExitCode;
+
+fn qubit(number: u32) -> Wire {
+    Wire {
+        class: Class::Q,
+        number,
+    }
+}
+
+fn single(kind: Kind, number: u32) -> Gate {
+    Gate {
+        kind,
+        a: qubit(number),
+        b: None,
+        c: None,
+    }
+}
+
+fn cnot(control: u32, target: u32) -> Gate {
+    Gate {
+        kind: Kind::Cnot,
+        a: qubit(control),
+        b: Some(qubit(target)),
+        c: None,
+    }
+}
+
+/// A number from another, in no order.
+fn mix(number: u32) -> u32 {
+    let spread = number.wrapping_mul(2_654_435_761);
+    (spread ^ (spread >> 15)).wrapping_mul(2_246_822_519) >> 7
+}
+
+/// One of several kinds on some of 1000 wires.
+fn mixed(i: u32) -> Gate {
+    let a = mix(i) % 1000;
+    match mix(i.wrapping_add(77)) % 8 {
+        0 => single(Kind::X, a),
+        1 => single(Kind::T, a),
+        2 => single(Kind::Tdag, a),
+        3 => single(Kind::H, a),
+        4 => single(Kind::Rz(Fixed(i as i64 % 1000)), a),
+        _ => cnot(a, (a + 1 + mix(i.wrapping_add(5)) % 999) % 1000),
+    }
+}
+
+/// Gate i of a form.
+fn gate(form: &str, i: u32) -> Gate {
+    match form {
+        "apart" => single(Kind::H, i),
+        "wide" => single(Kind::H, i % 65536),
+        "angles" => single(Kind::Rz(Fixed(i as i64)), i),
+        "chains" if i % 2 == 0 => single(Kind::H, i % 100),
+        "chains" => cnot(i % 100, (i % 100 + 1 + i / 100 % 99) % 100),
+        "line" => single(Kind::H, 0),
+        _ => mixed(i),
+    }
+}
+
+fn make(alloc: Global, form: &str, count: u32) -> Result<Vec<Gate>, AllocError> {
+    let mut gates = Vec::with_capacity(alloc, count as usize)?;
+    for i in 0..count {
+        gates.push(gate(form, i))?;
+    }
+    Ok(gates)
+}
+
+/// Whether there is a schedule, by LPFS or RCP.
+fn has_schedule(alloc: Global, gates: &[Gate], k: u32, d: u32, by_through: bool) -> bool {
+    let times = Times::ones();
+    if k == 0 || d == 0 {
+        return gates.len() > 0;
+    }
+    if by_through {
+        schedule(alloc, gates, k, d, &Lpfs, &times).is_ok()
+    } else {
+        schedule(alloc, gates, k, d, &Rcp, &times).is_ok()
+    }
+}
+
+/// A word as a number; 0 where it is none.
+fn number(words: &[String], i: usize) -> u32 {
+    match words.get(i) {
+        Some(word) => word.parse::<u32>().unwrap_or(0),
+        None => 0,
+    }
+}
+
+fn word(words: &[String], i: usize) -> &str {
+    match words.get(i) {
+        Some(word) => word.as_str(),
+        None => "",
+    }
+}
+
+fn read_args(rt: &HostRuntime) -> Option<Vec<String>> {
+    let args = env::args(rt).ok()?;
+    let mut words = Vec::new(rt.alloc());
+    for word in args {
+        words.push(word).ok()?;
+    }
+    Some(words)
+}
+
+fn main(rt: HostRuntime) -> ExitCode {
+    let Some(words) = read_args(&rt) else {
+        return ExitCode::from(3);
+    };
+    let Ok(gates) = make(rt.alloc(), word(&words, 1), number(&words, 2)) else {
+        return ExitCode::from(2);
+    };
+    let by_through = word(&words, 5) == "lpfs";
+    if has_schedule(rt.alloc(), &gates, number(&words, 3), number(&words, 4), by_through) {
+        ExitCode::from(0)
+    } else {
+        ExitCode::from(1)
+    }
+}
+'''
+
+
+def measure(program, words):
+    """The status, the seconds of processor time, and the peak in MiB of a run."""
+    begun = time.time()
+    child = subprocess.Popen([program, *map(str, words)])
+    _, status, usage = os.wait4(child.pid, 0)
+    return os.waitstatus_to_exitcode(status), usage.ru_utime + usage.ru_stime, time.time() - begun, usage.ru_maxrss // 1024
+
+
+def main():
+    names = sys.argv[1:] or list(CASES)
+    with tempfile.TemporaryDirectory() as folder:
+        folder = Path(folder)
+        crates = folder / 'crates'
+        for name in ('sc_base', 'sc_gate', 'sc_sched'):
+            shutil.copytree(top / 'crates' / name, crates / name, ignore=shutil.ignore_patterns('out'))
+        (folder / 'HANDLES').write_text((top / 'HANDLES').read_text())
+        (folder / 'crates.txt').write_text('sc_base: itoa\nsc_gate: sc_base itoa\nsc_sched: sc_base sc_gate itoa\nsteps: sc_base sc_gate sc_sched\n')
+        (crates / 'steps/src').mkdir(parents=True)
+        (crates / 'steps/src/main.rt').write_text(MAIN_RT)
+        built = subprocess.run(['rt', 'run'], cwd=crates / 'steps', capture_output=True, text=True)
+        program = crates / 'steps/out/steps'
+        if not program.exists():
+            sys.exit(built.stdout + built.stderr)
+        for name in names:
+            form, k, d, order = CASES[name]
+            for count in (MOST // 4, MOST // 2, MOST):
+                status, busy, took, peak = measure(program, (form, count, k, d, order))
+                print(f'{name} {count}: status {status}, {busy:.2f} s of processor time, {took:.2f} s, peak {peak} MiB', flush=True)
+
+
+main()
