@@ -8,8 +8,8 @@ pub enum TypeFault {
     UnknownName(Place),
     /// A name is declared a second time in its scope, or a module or function name a second time.
     Redefined(Place),
-    /// Something of another kind is needed there, a name is set that may not be, a `double` is put into an
-    /// `int`, or `%`, `<<` or `>>` has a `double`.
+    /// Something of another kind is needed where the first token stands; or a name that can't be set is set, or
+    /// a `double` is put into an `int`; or `%`, `<<` or `>>` has a `double`.
     WrongKind(Place),
     /// A call has another number of arguments than what it calls has parameters.
     WrongCount(Place),
