@@ -105,10 +105,19 @@ const MISTAKEN: [(&str, &str); 11] = [
     ("int main() { H(; }\n", "scaff: 1:16: Syntax\n"),
     ("int main() { H(; } @\n", "scaff: 1:20: BadByte\n"),
     ("", "scaff: NoMain\n"),
-    ("int main() { qbit q[1]; qbit q[1]; }\n", "scaff: 1:30: Redefined\n"),
+    (
+        "int main() { qbit q[1]; qbit q[1]; }\n",
+        "scaff: 1:30: Redefined\n",
+    ),
     ("int main() { H(q[0]); }\n", "scaff: 1:16: UnknownName\n"),
-    ("int main() { qbit q; H(r); }\n", "scaff: 1:24: UnknownName\n"),
-    ("int main() { cbit c; if (c) ; }\n", "scaff: 1:26: MeasuredUse\n"),
+    (
+        "int main() { qbit q; H(r); }\n",
+        "scaff: 1:24: UnknownName\n",
+    ),
+    (
+        "int main() { cbit c; if (c) ; }\n",
+        "scaff: 1:26: MeasuredUse\n",
+    ),
 ];
 
 #[test]
