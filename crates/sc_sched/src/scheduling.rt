@@ -87,6 +87,7 @@ fn steps_by<P: Priority>(
 {
     let ranks = ranks(alloc, gates, times)?;
     let laid = lay_out(alloc, gates, ranks.as_slice(), order, d)?;
+    drop(ranks);
     let steps = place_all(alloc, gates, laid, k)?;
     Ok(steps)
 }
