@@ -6,6 +6,7 @@ use std::test::Fail;
 
 /// A list has fewer gates than this, and a set of them is a number below 2 ^ 8.
 pub(crate) const GATES: u32 = 8;
+
 const SETS: u32 = 256;
 
 /// Whether the set holds x.
@@ -60,7 +61,12 @@ fn heaviest(gates: &[Gate], times: &Times, x: u32, starts: bool) -> u64 {
 }
 
 /// The keys by heights, or by the weights of the chains through a gate.
-pub(crate) fn keys(alloc: Global, gates: &[Gate], times: &Times, starts: bool) -> Result<Vec<u64>, Fail> {
+pub(crate) fn keys(
+    alloc: Global,
+    gates: &[Gate],
+    times: &Times,
+    starts: bool,
+) -> Result<Vec<u64>, Fail> {
     let mut keys = Vec::new(alloc);
     for x in 0..GATES {
         keys.push(heaviest(gates, times, x, starts))?;
