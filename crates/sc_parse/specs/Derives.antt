@@ -8,7 +8,9 @@ use Rattle.sc_base.specs.declared.Fixed.{Fixed}
 use Rattle.sc_base.specs.declared.GateName.{GateName}
 use Rattle.sc_base.specs.declared.Place.{Place}
 use Rattle.sc_syntax.specs.declared.Mark.{Mark}
+use Rattle.sc_syntax.specs.declared.Mark.TheVariants as mark
 use Rattle.sc_syntax.specs.declared.Word.{Word}
+use Rattle.sc_syntax.specs.declared.Word.TheVariants as reserved
 use Rattle.sc_syntax.specs.declared.TokenSort.TheVariants as sort
 use Rattle.sc_syntax.specs.declared.NumSort.{NumSort}
 use Rattle.sc_syntax.specs.declared.NumSort.TheVariants as number
@@ -111,8 +113,8 @@ pub data Builds : Symbol → List Tree → Tree → Type 0 where
   measured_is : {vs : List Tree} {n : Name} {i : Option Expr} {g : GateName} {o : Operand} → kept vs ≡ name n ∷ (if_there expr i ++ meas g o ∷ [])
       → Builds symbol.Set vs (stmt (does n.place (act.Measure (record { gate = g; into = record { name = n; index = i }; from = o }))))
   setting_is : {vs : List Tree} {s : Stmt} → Builds symbol.Set vs (stmt s) → Builds symbol.Step vs (stmt s)
-  call_is : {n : Name} {vs : List Tree} {es : List Expr} → kept vs ≡ each expr es
-      → Builds symbol.Step (name n ∷ vs) (stmt (does n.place (act.Call (record { callee = callee.Named n.text; place = n.place; args = es }))))
+  call_is : {n : Name} {t : Piece} {vs : List Tree} {es : List Expr} → t.token.sort ≡ sort.Mark mark.OpenParen → kept vs ≡ each expr es
+      → Builds symbol.Step (name n ∷ token t ∷ vs) (stmt (does n.place (act.Call (record { callee = callee.Named n.text; place = n.place; args = es }))))
   gate_is : {t : Piece} {g : GateName} {vs : List Tree} {es : List Expr} → t.token.sort ≡ sort.Gate g → kept vs ≡ each expr es
       → Builds symbol.Step (token t ∷ vs) (stmt (does t.token.place (act.Call (record { callee = callee.Gate g; place = t.token.place; args = es }))))
   start_numbers : {vs : List Tree} {n : NumSort} {p : Place} {is : List Init} → kept vs ≡ num n p ∷ each init is → Builds symbol.Start vs (stmt (does p (act.Numbers n is)))
@@ -120,15 +122,16 @@ pub data Builds : Symbol → List Tree → Tree → Type 0 where
   wires_is : {vs : List Tree} {c : Class} {p : Place} {ds : List Decl} → kept vs ≡ wire c p ∷ each decl ds → Builds symbol.Stmt vs (stmt (does p (act.Wires c ds)))
   numbers_is : {vs : List Tree} {n : NumSort} {p : Place} {is : List Init} → kept vs ≡ num n p ∷ each init is → Builds symbol.Stmt vs (stmt (does p (act.Numbers n is)))
   done_is : {s : Stmt} {u : Piece} → Builds symbol.Stmt (stmt s ∷ token u ∷ []) (stmt s)
-  empty_is : {t : Piece} → Builds symbol.Stmt (token t ∷ []) (stmt (does t.token.place act.Empty))
-  block_is : {t : Piece} {vs : List Tree} (ss : Vec Stmt Global) → kept vs ≡ each stmt ss.items → Builds symbol.Stmt (token t ∷ vs) (stmt (does t.token.place (act.Block ss)))
-  if_is : {t : Piece} {vs : List Tree} {e : Expr} {s : Box Stmt Global} → kept vs ≡ expr e ∷ stmt s.value ∷ []
+  empty_is : {t : Piece} → t.token.sort ≡ sort.Mark mark.Semicolon → Builds symbol.Stmt (token t ∷ []) (stmt (does t.token.place act.Empty))
+  block_is : {t : Piece} {vs : List Tree} (ss : Vec Stmt Global) → t.token.sort ≡ sort.Mark mark.OpenBrace → kept vs ≡ each stmt ss.items
+      → Builds symbol.Stmt (token t ∷ vs) (stmt (does t.token.place (act.Block ss)))
+  if_is : {t : Piece} {vs : List Tree} {e : Expr} {s : Box Stmt Global} → t.token.sort ≡ sort.Word reserved.If → kept vs ≡ expr e ∷ stmt s.value ∷ []
       → Builds symbol.Stmt (token t ∷ vs) (stmt (does t.token.place (act.If e s None)))
-  if_else_is : {t : Piece} {vs : List Tree} {e : Expr} {s o : Box Stmt Global} → kept vs ≡ expr e ∷ stmt s.value ∷ stmt o.value ∷ []
+  if_else_is : {t : Piece} {vs : List Tree} {e : Expr} {s o : Box Stmt Global} → t.token.sort ≡ sort.Word reserved.If → kept vs ≡ expr e ∷ stmt s.value ∷ stmt o.value ∷ []
       → Builds symbol.Stmt (token t ∷ vs) (stmt (does t.token.place (act.If e s (Some o))))
-  while_is : {t : Piece} {vs : List Tree} {e : Expr} {s : Box Stmt Global} → kept vs ≡ expr e ∷ stmt s.value ∷ []
+  while_is : {t : Piece} {vs : List Tree} {e : Expr} {s : Box Stmt Global} → t.token.sort ≡ sort.Word reserved.While → kept vs ≡ expr e ∷ stmt s.value ∷ []
       → Builds symbol.Stmt (token t ∷ vs) (stmt (does t.token.place (act.While e s)))
-  for_is : (t u v w x : Piece) (a c : Option (Box Stmt Global)) (b : Option Expr) (s : Box Stmt Global)
+  for_is : (t u v w x : Piece) (a c : Option (Box Stmt Global)) (b : Option Expr) (s : Box Stmt Global) → t.token.sort ≡ sort.Word reserved.For
       → Builds symbol.Stmt (token t ∷ token u ∷ (if_there (λ y. stmt y.value) a ++ token v ∷ (if_there expr b ++ token w ∷ (if_there (λ y. stmt y.value) c ++ token x ∷ stmt s.value ∷ []))))
       (stmt (does t.token.place (act.For a b c s)))
   -- modules

@@ -1,8 +1,9 @@
 -- Sources: tokens in the grammar, and where they leave it.
-use Rattle.std.specs.Prelude.{◌≡◌, ℕ, zero, suc, ◌+◌, ◌≤◌, ◌<◌, length, take, List, [], ◌∷◌, ◌++◌}
+use Rattle.std.specs.Prelude.{◌≡◌, ◌≢◌, ℕ, zero, suc, ◌+◌, ◌≤◌, ◌<◌, length, take, List, [], ◌∷◌, ◌++◌}
 use Rattle.sc_base.specs.declared.Place.{Place}
 use Rattle.sc_syntax.specs.declared.Token.{Token}
 use Rattle.sc_syntax.specs.declared.Source.{Source}
+use Rattle.sc_syntax.specs.Alike.{Alike}
 use Rattle.sc_syntax.specs.Lexing.{place_after}
 use Rattle.sc_parse.specs.declared.source.ParseFault.{ParseFault}
 use Rattle.sc_parse.specs.declared.source.ParseFault.TheVariants.{Syntax, TooNested, Memory}
@@ -65,3 +66,17 @@ IsTreeOf text tokens tree = Derives source (pieces text tokens) [] (each part tr
 -- as the beginning of a source, tokens have at most one list of nestings
 abbrev pub HasOneNesting : Type 0
 HasOneNesting = (xs ys : List Marked) → Front source 0 xs → Front source 0 ys → bare xs ≡ bare ys → xs ≡ ys
+
+-- tokens have at most one tree, wherever it lies in memory
+abbrev pub HasOneTree : Type 0
+HasOneTree = (text : List ℕ) (tokens : List Token) (a b : Source) → IsTreeOf text tokens a → IsTreeOf text tokens b → Alike a b
+
+-- the tokens are refused for this reason, which is not that memory ran out
+pub record IsRefused (text : List ℕ) (tokens : List Token) (fault : ParseFault) : Type 0 where
+  pub has : IsFault text tokens fault
+  pub known : fault ≢ Memory
+
+-- tokens are refused for one reason at most, and for none where they are in the grammar
+pub record HasOneFault : Type 0 where
+  pub one : (text : List ℕ) (tokens : List Token) (a b : ParseFault) → IsRefused text tokens a → IsRefused text tokens b → a ≡ b
+  pub or_accepted : (text : List ℕ) (tokens : List Token) (fault : ParseFault) → IsRefused text tokens fault → IsAccepted (pieces text tokens) → ⊥

@@ -3,7 +3,7 @@ ghost use Rattle.std.specs.Prelude.{◌≡◌, ℕ, ◌+◌, ◌<◌, ◌≤◌,
 ghost use Rattle.sc_syntax.specs.Formed.{IsFormedSource};
 ghost use Rattle.sc_syntax.specs.Lexing.{place_after};
 ghost use Rattle.sc_syntax.specs.TokenLists.{AreRead};
-ghost use Rattle.sc_parse.specs.Grammar.{HasOneNesting, IsAccepted, IsFault, IsTreeOf, place_at};
+ghost use Rattle.sc_parse.specs.Grammar.{HasOneFault, HasOneNesting, HasOneTree, IsAccepted, IsFault, IsTreeOf, place_at};
 ghost use Rattle.sc_parse.specs.Pieces.{pieces};
 
 use crate::make;
@@ -38,6 +38,8 @@ pub fn parse(alloc: Global, source: &[u8], tokens: &Tokens) -> Result<Source, Pa
     ensures formed { IfOk result IsFormedSource }
     ensures refused { IfErr result (IsFault source.now tokens.now) }
     ensures one_nesting { HasOneNesting }
+    ensures one_tree { HasOneTree }
+    ensures one_fault { HasOneFault }
 {
     let tokens = tokens.as_slice();
     let reader = Reader {
