@@ -1,25 +1,16 @@
 -- A source of the first form makes one thing.
-use Rattle.std.proofs.Common.{◌≡◌, ℕ, Bool, List, [], ◌∷◌, ◌++◌, None, Some, Result, Ok, refl, sym, ◌∙◌, subst, append_assoc}
+use Rattle.std.proofs.Common.{◌≡◌, ℕ, Bool, List, [], ◌∷◌, ◌++◌, None, Some, refl, sym, ◌∙◌, subst, append_assoc}
 use Rattle.std.specs.List.{flat_map}
 use Rattle.std.specs.Prelude.{option_and_then}
-use Rattle.sc_syntax.proofs.Once.{once}
-use Rattle.sc_syntax.specs.Directives.{no_names}
-use Rattle.sc_syntax.specs.declared.LexFault.{LexFault}
-use Rattle.sc_syntax.specs.declared.Token.{Token}
 use Rattle.sc_syntax.specs.declared.TokenSort.{TokenSort}
 use Rattle.sc_top.specs.Answers.{IsFirstSource}
 use Rattle.sc_top.specs.First.{Made, nothing_made, after, after_all, IsFirstForm}
 use Rattle.sc_top.specs.Lexemes.{Part, part_lexemes, lexemes, ending}
 use Rattle.sc_top.proofs.BodyLemmas.{Body, body_less, first_body, ending_no_part}
+use Rattle.sc_top.proofs.SameTokens.{same_tokens}
 
 same_made : {a b : Made} → Some a ≡ Some b → a ≡ b
 same_made {a} {b} is = cc
-
-abbrev lexed : List Token → Result (List Token) LexFault
-lexed tokens = Ok tokens
-
-same_tokens : {a b : List Token} → lexed a ≡ lexed b → a ≡ b
-same_tokens {a} {b} is = cc
 
 -- lexemes that are an ending make nothing more
 made_at_end : (returns : Bool) (lexemes : List (TokenSort × List ℕ)) (from b : Made) (parts : List Part) (other : Bool) → lexemes ≡ ending returns →
@@ -44,7 +35,7 @@ body_once (p ∷ ps) returns lexemes from a b reads allowed body =
 -- a source of the first form makes one thing
 pub one_circuit : (source : List ℕ) (a b : Made) → IsFirstSource source a → IsFirstSource source b → a ≡ b
 one_circuit source a b first second =
-    let same = same_tokens (once source [] no_names [] source _ _ second.lexed first.lexed) in
+    let same = same_tokens second.lexed first.lexed in
     let form = subst (λ tokens. IsFirstForm source tokens b) same second.form in
     let rest = flat_map part_lexemes first.form.parts ++ ending first.form.returns in
     body_once first.form.parts first.form.returns rest nothing_made a b refl first.form.allowed (first_body source first.tokens rest b first.form.reads form)

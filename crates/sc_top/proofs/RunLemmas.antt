@@ -1,12 +1,10 @@
 -- Why a request is refused.
-use Rattle.std.proofs.Common.{◌≡◌, ℕ, ◌≤◌, ◌≢◌, length, List, [], Option, Some, Result, Ok, Err, None, refl, ap, sym, ◌∙◌, subst, inl, inr, arith}
-use Rattle.sc_syntax.proofs.Once.{once}
-use Rattle.sc_syntax.specs.Directives.{no_names}
-use Rattle.sc_syntax.specs.Lexing.{IsLexed, HasFault}
+use Rattle.std.proofs.Common.{◌≡◌, ℕ, ◌≤◌, ◌≢◌, ◌⊎◌, length, List, Option, Some, None, refl, ap, sym, ◌∙◌, subst, inl, inr}
+use Rattle.sc_syntax.specs.Lexing.{HasFault}
 use Rattle.sc_syntax.specs.declared.Token.{Token}
 use Rattle.sc_syntax.specs.declared.LexFault.{LexFault}
 use Rattle.sc_syntax.specs.declared.LexFault.TheVariants as lexing
-use Rattle.sc_top.specs.Answers.{request, Asks, most_bytes, IsFirstSource, IsOther, HasTree, IsTooLarge, IsMistaken, IsUnbuilt, Cause}
+use Rattle.sc_top.specs.Answers.{request, Asks, most_bytes, IsFirstSource, HasTokens, HasTree, IsTooLarge, IsMisparsed, IsMistyped, IsMistaken, IsUnbuilt, IsWritten, Cause, Answer, written, refused, IsAnswer}
 use Rattle.sc_parse.specs.Grammar.{IsFault as LeavesGrammar}
 use Rattle.sc_parse.specs.declared.source.ParseFault.{ParseFault}
 use Rattle.sc_parse.specs.declared.source.ParseFault.TheVariants as parsing
@@ -15,10 +13,11 @@ use Rattle.sc_types.specs.Sources.{fault_of}
 use Rattle.sc_types.specs.declared.fault.TypeFault.{TypeFault}
 use Rattle.sc_types.specs.declared.fault.TypeFault.TheVariants as typing
 use Rattle.sc_top.specs.Fault.{status_of, token_fault, grammar_fault, type_fault}
-use Rattle.sc_top.specs.First.{Made, IsFirstForm}
+use Rattle.sc_top.specs.First.{Made}
 use Rattle.sc_top.specs.declared.fault.Fault.{Fault}
 use Rattle.sc_top.specs.declared.fault.Fault.TheVariants.{Usage, ReadFault, SourceTooLarge, At, NoMain, Unbuilt, Memory, WriteFault}
 use Rattle.sc_top.specs.declared.status.Status.TheVariants as status
+use Rattle.sc_top.proofs.OneAnswer.{one_answer}
 
 -- a fault of the tokens is why the request is refused
 pub lexing_cause : (fault : LexFault) (source : List ℕ) → length source ≤ most_bytes → (fault ≢ lexing.Memory → HasFault source fault) →
@@ -30,24 +29,30 @@ lexing_cause (lexing.BadDefine place) source within has = inl (record { within =
 lexing_cause (lexing.TooManyTokens place) source within has = inl (record { within = within; mistake = lexing.TooManyTokens place; has = has (λ is. cc); is = refl })
 lexing_cause lexing.Memory source within has = tt
 
+misparsed : (fault : ParseFault) (text : List ℕ) (tokens : List Token) → HasTokens text tokens → LeavesGrammar text tokens fault → fault ≢ parsing.Memory → IsMisparsed (grammar_fault fault) text
+misparsed fault text tokens has leaves known = record { tokens = tokens; has = has; mistake = fault; refused = record { has = leaves; known = known }; is = refl }
+
 -- tokens that leave the grammar are why the request is refused
-pub parsing_cause : (fault : ParseFault) (source : List ℕ) (tokens : List Token) → IsOther source tokens → LeavesGrammar source tokens fault →
-    Cause ⊥ (λ (Says : List ℕ → Type 0). Says source) ⊥ ⊥ (grammar_fault fault)
-parsing_cause (parsing.Syntax place) source tokens other leaves = inr (inl (record { tokens = tokens; other = other; mistake = parsing.Syntax place; leaves = leaves; is = refl }))
-parsing_cause (parsing.TooNested place) source tokens other leaves = inr (inl (record { tokens = tokens; other = other; mistake = parsing.TooNested place; leaves = leaves; is = refl }))
-parsing_cause parsing.Memory source tokens other leaves = tt
+pub parsing_cause : (fault : ParseFault) (text : List ℕ) (tokens : List Token) → HasTokens text tokens → LeavesGrammar text tokens fault →
+    Cause ⊥ (λ (Says : List ℕ → Type 0). Says text) ⊥ ⊥ (grammar_fault fault)
+parsing_cause (parsing.Syntax place) text tokens has leaves = inr (inl (misparsed (parsing.Syntax place) text tokens has leaves (λ is. cc)))
+parsing_cause (parsing.TooNested place) text tokens has leaves = inr (inl (misparsed (parsing.TooNested place) text tokens has leaves (λ is. cc)))
+parsing_cause parsing.Memory text tokens has leaves = tt
+
+mistyped : (fault : TypeFault) (text : List ℕ) (tokens : List Token) (tree : Source) → HasTree text tokens tree → fault_of tree ≡ Some fault → IsMistyped (type_fault fault) text
+mistyped fault text tokens tree has first = record { tokens = tokens; tree = tree; has = has; mistake = fault; first = first; is = refl }
 
 -- a source that is not well typed is refused for that
-pub typing_cause : (fault : TypeFault) (text : List ℕ) (tree : Source) → HasTree text tree → (fault ≢ typing.Memory → fault_of tree ≡ Some fault) →
+pub typing_cause : (fault : TypeFault) (text : List ℕ) (tokens : List Token) (tree : Source) → HasTree text tokens tree → (fault ≢ typing.Memory → fault_of tree ≡ Some fault) →
     Cause ⊥ (λ (Says : List ℕ → Type 0). Says text) ⊥ ⊥ (type_fault fault)
-typing_cause (typing.UnknownName place) text tree has first = inr (inr (record { tree = tree; has = has; mistake = typing.UnknownName place; first = first (λ is. cc); is = refl }))
-typing_cause (typing.Redefined place) text tree has first = inr (inr (record { tree = tree; has = has; mistake = typing.Redefined place; first = first (λ is. cc); is = refl }))
-typing_cause (typing.WrongKind place) text tree has first = inr (inr (record { tree = tree; has = has; mistake = typing.WrongKind place; first = first (λ is. cc); is = refl }))
-typing_cause (typing.WrongCount place) text tree has first = inr (inr (record { tree = tree; has = has; mistake = typing.WrongCount place; first = first (λ is. cc); is = refl }))
-typing_cause (typing.MeasuredUse place) text tree has first = inr (inr (record { tree = tree; has = has; mistake = typing.MeasuredUse place; first = first (λ is. cc); is = refl }))
-typing_cause (typing.BadWidth place) text tree has first = inr (inr (record { tree = tree; has = has; mistake = typing.BadWidth place; first = first (λ is. cc); is = refl }))
-typing_cause typing.NoMain text tree has first = inr (inr (record { tree = tree; has = has; mistake = typing.NoMain; first = first (λ is. cc); is = refl }))
-typing_cause typing.Memory text tree has first = tt
+typing_cause (typing.UnknownName place) text tokens tree has first = inr (inr (mistyped (typing.UnknownName place) text tokens tree has (first (λ is. cc))))
+typing_cause (typing.Redefined place) text tokens tree has first = inr (inr (mistyped (typing.Redefined place) text tokens tree has (first (λ is. cc))))
+typing_cause (typing.WrongKind place) text tokens tree has first = inr (inr (mistyped (typing.WrongKind place) text tokens tree has (first (λ is. cc))))
+typing_cause (typing.WrongCount place) text tokens tree has first = inr (inr (mistyped (typing.WrongCount place) text tokens tree has (first (λ is. cc))))
+typing_cause (typing.MeasuredUse place) text tokens tree has first = inr (inr (mistyped (typing.MeasuredUse place) text tokens tree has (first (λ is. cc))))
+typing_cause (typing.BadWidth place) text tokens tree has first = inr (inr (mistyped (typing.BadWidth place) text tokens tree has (first (λ is. cc))))
+typing_cause typing.NoMain text tokens tree has first = inr (inr (mistyped typing.NoMain text tokens tree has (first (λ is. cc))))
+typing_cause typing.Memory text tokens tree has first = tt
 
 asks : {words : List (List ℕ)} {held : List ℕ → Option (List ℕ)} {told : Type 0} {name file : List ℕ} {Says : List ℕ → Type 0} → request words ≡ Some file → name ≡ file →
     (told → (text : List ℕ) × (held name ≡ Some text) × Says text) → told → Asks held words Says
@@ -88,39 +93,49 @@ cause_told told held R S WriteFault here cause = cause
 pub same_text : {a b : List ℕ} → Some a ≡ Some b → a ≡ b
 same_text {a} {b} is = cc
 
-abbrev outcome : List Token → Result (List Token) LexFault
-outcome tokens = Ok tokens
+-- the fault of a text that is told is its answer
+is_refused : {held : Option (List ℕ)} {text : List ℕ} {answer : Answer} (fault : Fault) (Says : List ℕ → Type 0) → held ≡ Some text → IsAnswer text answer →
+    ((Says text) → IsAnswer text (refused fault)) → (other : List ℕ) × (held ≡ Some other) × Says other → (fault ≡ Memory) ⊎ (answer ≡ refused fault)
+is_refused {text = text} {answer = answer} fault Says holds has says (other, is, said) =
+    inr (one_answer text answer (refused fault) has (says (subst Says (same_text (sym is ∙ holds)) said)))
 
-same_tokens : {a b : List Token} → outcome a ≡ outcome b → a ≡ b
-same_tokens {a} {b} is = cc
+-- where no count rose, the fault of a text is its answer, or memory is wanting
+pub answered : {R S : Type 0} {held : Option (List ℕ)} {text : List ℕ} {answer : Answer} → held ≡ Some text → IsAnswer text answer → (R → ⊥) → (S → ⊥) →
+    (fault : Fault) → Cause ⊥ (λ (Says : List ℕ → Type 0). (other : List ℕ) × (held ≡ Some other) × Says other) R S fault → (fault ≡ Memory) ⊎ (answer ≡ refused fault)
+answered holds has read write Usage cause = absurd cause
+answered holds has read write ReadFault cause = absurd (read cause)
+answered holds has read write SourceTooLarge cause = is_refused SourceTooLarge IsTooLarge holds has (λ said. ((λ is. cc), said)) cause
+answered holds has read write (At m place) cause = is_refused (At m place) (IsMistaken (At m place)) holds has (λ said. ((λ is. cc), said)) cause
+answered holds has read write NoMain cause = is_refused NoMain (IsMistaken NoMain) holds has (λ said. ((λ is. cc), said)) cause
+answered holds has read write Unbuilt cause = is_refused Unbuilt IsUnbuilt holds has (λ said. ((λ is. cc), said)) cause
+answered holds has read write Memory cause = inl refl
+answered holds has read write WriteFault cause = absurd (write cause)
 
--- a source that has tokens has no fault of the tokens
-no_mistake : (text : List ℕ) (tokens : List Token) (fault : LexFault) → IsLexed text tokens → HasFault text fault → ⊥
-no_mistake text tokens fault lexed has = let impossible : outcome tokens ≡ Err fault = once text [] no_names [] text _ _ lexed has in cc
+not_written : {made : Made} {fault : Fault} → written made ≡ refused fault → ⊥
+not_written {made} {fault} is = cc
 
-not_other : (text : List ℕ) (made : Made) (tokens : List Token) → IsFirstSource text made → IsOther text tokens → ⊥
-not_other text made tokens first other =
-    let same = same_tokens (once text [] no_names [] text _ _ first.lexed other.lexed) in
-    other.other made (subst (λ (ts : List Token). IsFirstForm text ts made) same first.form)
-
-not_mistaken : (text : List ℕ) (made : Made) (fault : Fault) → IsFirstSource text made → IsMistaken fault text → ⊥
-not_mistaken text made fault first (inl here) = no_mistake _ first.tokens here.mistake first.lexed here.has
-not_mistaken text made fault first (inr (inl here)) = not_other _ _ _ first here.other
-not_mistaken text made fault first (inr (inr here)) = not_other _ _ _ first here.has.other
+same_refusal : {a b : Fault} → refused a ≡ refused b → a ≡ b
+same_refusal {a} {b} is = cc
 
 -- a source of the first form is not refused: only memory can be wanting where no count rose
 pub only_memory : {R S : Type 0} {held : Option (List ℕ)} {text : List ℕ} {made : Made} → held ≡ Some text → length text ≤ most_bytes → IsFirstSource text made → (R → ⊥) → (S → ⊥) →
     (fault : Fault) → Cause ⊥ (λ (Says : List ℕ → Type 0). (other : List ℕ) × (held ≡ Some other) × Says other) R S fault → status_of fault ≡ status.Memory
-only_memory holds within first read write Usage cause = absurd cause
-only_memory holds within first read write ReadFault cause = absurd (read cause)
-only_memory holds within first read write SourceTooLarge (other, is, large) =
-    absurd (let past = subst IsTooLarge (same_text (sym is ∙ holds)) large in omega arith)
-only_memory holds within first read write (At m place) (other, is, mistaken) =
-    absurd (not_mistaken _ _ _ first (subst (IsMistaken (At m place)) (same_text (sym is ∙ holds)) mistaken))
-only_memory holds within first read write NoMain (other, is, mistaken) =
-    absurd (not_mistaken _ _ _ first (subst (IsMistaken NoMain) (same_text (sym is ∙ holds)) mistaken))
-only_memory {text = text} {made = made} holds within first read write Unbuilt (other, is, unbuilt) =
-    let here = subst IsUnbuilt (same_text (sym is ∙ holds)) unbuilt in
-    absurd (not_other _ _ _ first here.has.other)
-only_memory holds within first read write Memory cause = refl
-only_memory holds within first read write WriteFault cause = absurd (write cause)
+only_memory {made = made} holds within first read write fault cause = elim (answered {answer = written made} holds (within, first) read write fault cause) [
+  | inl is ↦ ap status_of is
+  | inr is ↦ absurd (not_written is)
+]
+
+-- a text that has a fault is refused for it: only memory can be wanting where no count rose
+pub only_this : {R S : Type 0} {held : Option (List ℕ)} {text : List ℕ} {fault : Fault} → held ≡ Some text → IsAnswer text (refused fault) → (R → ⊥) → (S → ⊥) →
+    (found : Fault) → Cause ⊥ (λ (Says : List ℕ → Type 0). (other : List ℕ) × (held ≡ Some other) × Says other) R S found → (found ≡ Memory) ⊎ (found ≡ fault)
+only_this {fault = fault} holds has read write found cause = elim (answered {answer = refused fault} holds has read write found cause) [
+  | inl is ↦ inl is
+  | inr is ↦ inr (sym (same_refusal is))
+]
+
+-- and nothing is written for it
+pub not_done : {held : Option (List ℕ)} {text : List ℕ} {fault : Fault} {Written : List ℕ → Type 0} → held ≡ Some text → IsAnswer text (refused fault) →
+    (other : List ℕ) × (held ≡ Some other) × IsWritten Written other → ⊥
+not_done {text = text} {fault = fault} {Written = Written} holds has (other, is, done) =
+    let here = subst (IsWritten Written) (same_text (sym is ∙ holds)) done in
+    not_written (one_answer text (written here.made) (refused fault) (here.within, here.first) has)

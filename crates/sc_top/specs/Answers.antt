@@ -1,15 +1,16 @@
 -- What a request is answered.
-use Rattle.std.specs.Prelude.{◌≡◌, ℕ, ◌<◌, ◌≤◌, ◌⊎◌, ◌==◌, ◌&&◌, not, Bool, true, List, [], ◌∷◌, Option, None, Some, codes, length, if◌then◌else◌}
+use Rattle.std.specs.Prelude.{◌≡◌, ◌≢◌, ℕ, ◌<◌, ◌≤◌, ◌⊎◌, ◌==◌, ◌&&◌, not, Bool, true, List, [], ◌∷◌, Option, None, Some, codes, length, if◌then◌else◌}
 use Rattle.std.specs.Str.{bytes_eq}
 use Rattle.sc_gate.specs.Lines.{flat_text}
 use Rattle.sc_syntax.specs.Lexing.{IsLexed, HasFault}
 use Rattle.sc_syntax.specs.declared.LexFault.{LexFault}
 use Rattle.sc_syntax.specs.declared.Token.{Token}
 use Rattle.sc_syntax.specs.declared.Source.{Source}
-use Rattle.sc_parse.specs.Grammar.{IsAccepted, IsTreeOf, IsFault as LeavesGrammar}
+use Rattle.sc_parse.specs.Grammar.{IsAccepted, IsTreeOf, IsRefused}
 use Rattle.sc_parse.specs.Pieces.{pieces}
 use Rattle.sc_parse.specs.declared.source.ParseFault.{ParseFault}
 use Rattle.sc_types.specs.Sources.{fault_of}
+use Rattle.sc_types.specs.Typing.{IsWellTyped}
 use Rattle.sc_types.specs.declared.fault.TypeFault.{TypeFault}
 use Rattle.sc_top.specs.Fault.{token_fault, grammar_fault, type_fault}
 use Rattle.sc_top.specs.First.{Made, IsFirstForm}
@@ -61,31 +62,30 @@ pub record IsMisread (fault : Fault) (text : List ℕ) : Type 0 where
   pub has : HasFault text mistake
   pub is : fault ≡ token_fault mistake
 
--- the text has tokens, but not of the first form
-pub record IsOther (text : List ℕ) (tokens : List Token) : Type 0 where
+-- the text has these tokens
+pub record HasTokens (text : List ℕ) (tokens : List Token) : Type 0 where
   pub within : length text ≤ most_bytes
   pub lexed : IsLexed text tokens
-  pub other : (made : Made) → IsFirstForm text tokens made → ⊥
 
--- the tokens of the text are not of the first form, and leave the grammar with this fault
+-- the tokens of the text leave the grammar with this fault
 pub record IsMisparsed (fault : Fault) (text : List ℕ) : Type 0 where
   pub tokens : List Token
-  pub other : IsOther text tokens
+  pub has : HasTokens text tokens
   pub mistake : ParseFault
-  pub leaves : LeavesGrammar text tokens mistake
+  pub refused : IsRefused text tokens mistake
   pub is : fault ≡ grammar_fault mistake
 
--- the text has tokens that are not of the first form, but of this tree
-pub record HasTree (text : List ℕ) (tree : Source) : Type 0 where
-  pub tokens : List Token
-  pub other : IsOther text tokens
+-- the tokens of the text are in the grammar, and this is their tree
+pub record HasTree (text : List ℕ) (tokens : List Token) (tree : Source) : Type 0 where
+  pub has : HasTokens text tokens
   pub accepted : IsAccepted (pieces text tokens)
   pub derives : IsTreeOf text tokens tree
 
--- the text is of a tree that is not well typed, which has this fault
+-- the text has a tree that is not well typed, and this is its fault
 pub record IsMistyped (fault : Fault) (text : List ℕ) : Type 0 where
+  pub tokens : List Token
   pub tree : Source
-  pub has : HasTree text tree
+  pub has : HasTree text tokens tree
   pub mistake : TypeFault
   pub first : fault_of tree ≡ Some mistake
   pub is : fault ≡ type_fault mistake
@@ -94,11 +94,21 @@ pub record IsMistyped (fault : Fault) (text : List ℕ) : Type 0 where
 abbrev pub IsMistaken : Fault → List ℕ → Type 0
 IsMistaken fault text = IsMisread fault text ⊎ IsMisparsed fault text ⊎ IsMistyped fault text
 
+-- the text has a tree that is well typed
+pub record IsTypedText (text : List ℕ) (tokens : List Token) : Type 0 where
+  pub tree : Source
+  pub has : HasTree text tokens tree
+  pub typed : IsWellTyped tree
+
+-- the tokens are not of the first form
+abbrev pub IsOther : List ℕ → List Token → Type 0
+IsOther text tokens = (made : Made) → IsFirstForm text tokens made → ⊥
+
 -- the text is well typed, but not of the first form
 pub record IsUnbuilt (text : List ℕ) : Type 0 where
-  pub tree : Source
-  pub has : HasTree text tree
-  pub typed : fault_of tree ≡ None
+  pub tokens : List Token
+  pub typed : IsTypedText text tokens
+  pub other : IsOther text tokens
 
 -- the text is a source of the first form, and its flat text was written
 pub record IsWritten (Written : List ℕ → Type 0) (text : List ℕ) : Type 0 where
@@ -118,3 +128,21 @@ Cause NoRequest Text ShelfRose OutRose NoMain = Text (IsMistaken NoMain)
 Cause NoRequest Text ShelfRose OutRose Unbuilt = Text IsUnbuilt
 Cause NoRequest Text ShelfRose OutRose Memory = Unit {0}
 Cause NoRequest Text ShelfRose OutRose WriteFault = OutRose
+
+-- what a text is answered, where memory is found and nothing fails
+pub data Answer : Type 0 where
+  written : Made → Answer
+  refused : Fault → Answer
+
+-- the text makes this, or it has this fault
+abbrev pub IsAnswer : List ℕ → Answer → Type 0
+IsAnswer text (written made) = (length text ≤ most_bytes) × IsFirstSource text made
+IsAnswer text (refused fault) = (fault ≢ Memory) × Cause ⊥ (λ (Says : List ℕ → Type 0). Says text) ⊥ ⊥ fault
+
+-- a text has one answer at most
+abbrev pub HasOneAnswer : Type 0
+HasOneAnswer = (text : List ℕ) (a b : Answer) → IsAnswer text a → IsAnswer text b → a ≡ b
+
+-- a source of the first form is in the grammar and well typed
+abbrev pub FirstFormIsTyped : Type 0
+FirstFormIsTyped = (text : List ℕ) (made : Made) → length text ≤ most_bytes → (first : IsFirstSource text made) → IsTypedText text first.tokens

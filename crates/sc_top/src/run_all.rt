@@ -5,7 +5,7 @@ ghost use Rattle.sc_base.specs.Causes.{Rose, Stood, HasCause};
 ghost use Rattle.sc_base.specs.Output.{Wrote, WrotePrefix};
 ghost use Rattle.sc_gate.specs.Lines.{flat_text};
 ghost use Rattle.sc_syntax.specs.TokenLists.{AreRead};
-ghost use Rattle.sc_top.specs.Answers.{request, most_bytes, IsFirstSource, IsOther, Asks, IsWritten, Cause};
+ghost use Rattle.sc_top.specs.Answers.{request, most_bytes, IsFirstSource, HasTokens, IsOther, Asks, IsWritten, Cause, IsAnswer, refused, HasOneAnswer, FirstFormIsTyped};
 ghost use Rattle.sc_top.specs.Fault.{status_of, fault_line, Tells};
 ghost use Rattle.sc_top.specs.First.{Made};
 ghost use Rattle.sc_top.specs.declared.fault.Fault.{Fault as AnyFault};
@@ -80,6 +80,7 @@ fn circuit(alloc: Global, source: &[u8]) -> Result<(u32, List<Gate>), Fault>
 /// Why a source that is not of the first form is refused.
 fn refusal(alloc: Global, source: &[u8], tokens: &Tokens) -> Fault
     requires read { AreRead source.now tokens.now }
+    requires has { HasTokens source.now tokens.now }
     requires other { IsOther source.now tokens.now }
     ensures { Cause ⊥ (λ Says. Says source.now) ⊥ ⊥ result }
 {
@@ -188,6 +189,16 @@ pub fn run<F: Shelf, O: Sink, E: Sink>(
         F.held shelf.old name ≡ Some text → length text ≤ most_bytes → IsFirstSource text made →
         Stood (F.faults shelf.old) (F.faults shelf.new) → Stood (O.faults out.old) (O.faults out.new) →
         (result ≡ Status.Done) ⊎ (result ≡ Status.Memory) }
+
+    // Where nothing fails, a text that has a fault is refused for that fault, or memory is wanting.
+    ensures refused { (name text : List ℕ) (fault : AnyFault) → request (map rc_str_bytes words.now) ≡ Some name → IsTrue (F.tells_held shelf.old) →
+        F.held shelf.old name ≡ Some text → IsAnswer text (refused fault) →
+        Stood (F.faults shelf.old) (F.faults shelf.new) → Stood (O.faults out.old) (O.faults out.new) →
+        (result ≡ Status.Memory) ⊎ ((result ≡ status_of fault) × Tells E.tells E.bytes E.is_ended E.faults err.old err.new (fault_line fault)) }
+
+    // A text has one answer at most, and a source of the first form is in the grammar and well typed.
+    ensures one_answer { HasOneAnswer }
+    ensures first_form_typed { FirstFormIsTyped }
 {
     let fault = match read_words(alloc, words) {
         Err(WordsFault::Usage) => Fault::Usage,
