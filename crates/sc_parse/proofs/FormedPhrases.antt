@@ -68,19 +68,19 @@ builds_formed (stepped_is {m = m} {o = o} i f) k all small = record { formed = (
 builds_formed (step_is {m = m} {o = o} i f) k all small = record { formed = (all.1.0, step_value m o f); light = omega arith }
 builds_formed (measured_is {vs = vs} {n = n} {i = i} {g = g} {o = o} e) k all small = let h = kept_held vs e all in let l = h.light in record { formed = measured_formed n i g o h.formed; light = omega arith }
 builds_formed (setting_is b) k all small = let made = builds_formed b tt all small in record { formed = made.formed; light = made.light }
-builds_formed (call_is {vs = vs} {es = es} e) k all small = let h = kept_held vs e all.1 in let l = h.light in record { formed = (all.0, list_formed expr IsFormedExpr (λ y f. f) es h.formed (omega arith)); light = omega arith }
+builds_formed (call_is {vs = vs} {es = es} i e) k all small = let h = kept_held vs e all.1.1 in let l = h.light in record { formed = (all.0, list_formed expr IsFormedExpr (λ y f. f) es h.formed (omega arith)); light = omega arith }
 builds_formed (gate_is {vs = vs} {es = es} i e) k all small = let h = kept_held vs e all.1 in let l = h.light in record { formed = (tt, list_formed expr IsFormedExpr (λ y f. f) es h.formed (omega arith)); light = omega arith }
 builds_formed (start_numbers {vs = vs} {is = is} e) k all small = let h = kept_held vs e all in let l = h.light in record { formed = list_formed init IsFormedInit (λ y f. f) is h.formed.1 (omega arith); light = omega arith }
 builds_formed start_set k all small = record { formed = all.0; light = omega arith }
 builds_formed (wires_is {vs = vs} {ds = ds} e) k all small = let h = kept_held vs e all in let l = h.light in record { formed = list_formed decl IsFormedDecl (λ y f. f) ds h.formed.1 (omega arith); light = omega arith }
 builds_formed (numbers_is {vs = vs} {is = is} e) k all small = let h = kept_held vs e all in let l = h.light in record { formed = list_formed init IsFormedInit (λ y f. f) is h.formed.1 (omega arith); light = omega arith }
 builds_formed done_is k all small = record { formed = all.0; light = omega arith }
-builds_formed empty_is k all small = record { formed = tt; light = omega arith }
-builds_formed (block_is {vs = vs} ss e) k all small = let h = kept_held vs e all.1 in let l = h.light in record { formed = block_is_formed ss (list_formed stmt IsFormedStmt (λ y f. f) ss.items h.formed (omega arith)); light = omega arith }
-builds_formed (if_is {vs = vs} e) k all small = let h = kept_held vs e all.1 in record { formed = (h.formed.0, h.formed.1.0, tt); light = omega arith }
-builds_formed (if_else_is {vs = vs} e) k all small = let h = kept_held vs e all.1 in record { formed = (h.formed.0, h.formed.1.0, h.formed.1.1.0); light = omega arith }
-builds_formed (while_is {vs = vs} e) k all small = let h = kept_held vs e all.1 in record { formed = (h.formed.0, h.formed.1.0); light = omega arith }
-builds_formed (for_is t u v w x a c b s) k all small = record { formed = for_formed t.token.place t u v w x a c b s k all; light = omega arith }
+builds_formed (empty_is i) k all small = record { formed = tt; light = omega arith }
+builds_formed (block_is {vs = vs} ss i e) k all small = let h = kept_held vs e all.1 in let l = h.light in record { formed = block_is_formed ss (list_formed stmt IsFormedStmt (λ y f. f) ss.items h.formed (omega arith)); light = omega arith }
+builds_formed (if_is {vs = vs} i e) k all small = let h = kept_held vs e all.1 in record { formed = (h.formed.0, h.formed.1.0, tt); light = omega arith }
+builds_formed (if_else_is {vs = vs} i e) k all small = let h = kept_held vs e all.1 in record { formed = (h.formed.0, h.formed.1.0, h.formed.1.1.0); light = omega arith }
+builds_formed (while_is {vs = vs} i e) k all small = let h = kept_held vs e all.1 in record { formed = (h.formed.0, h.formed.1.0); light = omega arith }
+builds_formed (for_is t u v w x a c b s i) k all small = record { formed = for_formed t.token.place t u v w x a c b s k all; light = omega arith }
 builds_formed one_is k all small = record { formed = (all.1.0, tt); light = omega arith }
 builds_formed pointer_is k all small = record { formed = (all.1.1.0, tt); light = omega arith }
 builds_formed (array_is {vs = vs} {e = e} i) k all small = let h = kept_held vs i all.1.1.1 in record { formed = (all.1.0, option_formed e h.formed); light = omega arith }

@@ -31,7 +31,15 @@ pub record Keeps (f : Form) (depth : ℕ) (ts : List Piece) (at end : ℕ) (vs :
   pub reads : Reads f depth ts at end parts
   pub same : kept parts ≡ vs
 
--- The same, where the parts build this tree as a phrase of the symbol.
+-- The same, where a token of this sort stands before the parts.
+pub record KeepsAfter (f : Form) (sort : TokenSort) (depth : ℕ) (ts : List Piece) (at end : ℕ) (vs : List Tree) : Type 0 where
+  pub it : Piece
+  pub is : it.token.sort ≡ sort
+  pub parts : List Tree
+  pub reads : Reads f depth ts at end (token it ∷ parts)
+  pub same : kept parts ≡ vs
+
+-- The form is read, where the parts build this tree as a phrase of the symbol.
 pub record Makes (f : Form) (s : Symbol) (depth : ℕ) (ts : List Piece) (at end : ℕ) (v : Tree) : Type 0 where
   pub parts : List Tree
   pub reads : Reads f depth ts at end parts

@@ -1,7 +1,9 @@
 //! Statements from their parts.
 ghost use Rattle.std.specs.Prelude.{◌≡◌, ◌++◌, true, is_some, List as Listed, [], ◌∷◌, IfErr, IfOk};
 ghost use Rattle.sc_base.specs.declared.GateName.{GateName};
+ghost use Rattle.sc_syntax.specs.declared.Mark.TheVariants as m;
 ghost use Rattle.sc_syntax.specs.declared.TokenSort.TheVariants as sort;
+ghost use Rattle.sc_syntax.specs.declared.Word.TheVariants as reserved;
 ghost use Rattle.sc_parse.specs.Derives.{Builds};
 ghost use Rattle.sc_parse.specs.Form as symbol;
 ghost use Rattle.sc_parse.specs.Pieces.{Piece};
@@ -89,7 +91,7 @@ pub fn measured(name: Name, index: Option<Expr>, gate: GateName, from: Operand) 
 
 /// A call of a module or a classical function.
 pub fn call(name: Name, args: List<Expr>) -> Stmt
-    ensures { (vs : Listed Tree) → kept vs ≡ each expr_part args → Builds symbol.Step (name_part name ∷ vs) (tree result) }
+    ensures { (t : Piece) (vs : Listed Tree) → t.token.sort ≡ sort.Mark m.OpenParen → kept vs ≡ each expr_part args → Builds symbol.Step (name_part name ∷ token_part t ∷ vs) (tree result) }
 {
     let place = name.place;
     Stmt {
@@ -122,7 +124,7 @@ pub fn gate(token: Token, args: List<Expr>) -> Stmt
 
 /// An `if` without an `else`.
 pub fn if_only(alloc: Global, place: Place, test: Expr, yes: Stmt) -> Result<Stmt, Fault>
-    ensures ok { IfOk result (λ s. (t : Piece) (vs : Listed Tree) → t.token.place ≡ place → kept vs ≡ expr_part test ∷ tree yes ∷ [] → Builds symbol.Stmt (token_part t ∷ vs) (tree s)) }
+    ensures ok { IfOk result (λ s. (t : Piece) (vs : Listed Tree) → t.token.sort ≡ sort.Word reserved.If → t.token.place ≡ place → kept vs ≡ expr_part test ∷ tree yes ∷ [] → Builds symbol.Stmt (token_part t ∷ vs) (tree s)) }
     ensures err { IfErr result (λ e. e ≡ Fault.Memory) }
 {
     let yes = boxed(alloc, yes)?;
@@ -134,7 +136,7 @@ pub fn if_only(alloc: Global, place: Place, test: Expr, yes: Stmt) -> Result<Stm
 
 /// An `if` with an `else`.
 pub fn if_else(alloc: Global, place: Place, test: Expr, yes: Stmt, no: Stmt) -> Result<Stmt, Fault>
-    ensures ok { IfOk result (λ s. (t : Piece) (vs : Listed Tree) → t.token.place ≡ place → kept vs ≡ expr_part test ∷ tree yes ∷ tree no ∷ [] → Builds symbol.Stmt (token_part t ∷ vs) (tree s)) }
+    ensures ok { IfOk result (λ s. (t : Piece) (vs : Listed Tree) → t.token.sort ≡ sort.Word reserved.If → t.token.place ≡ place → kept vs ≡ expr_part test ∷ tree yes ∷ tree no ∷ [] → Builds symbol.Stmt (token_part t ∷ vs) (tree s)) }
     ensures err { IfErr result (λ e. e ≡ Fault.Memory) }
 {
     let yes = boxed(alloc, yes)?;
@@ -147,7 +149,7 @@ pub fn if_else(alloc: Global, place: Place, test: Expr, yes: Stmt, no: Stmt) -> 
 
 /// A `while`.
 pub fn while_loop(alloc: Global, place: Place, test: Expr, body: Stmt) -> Result<Stmt, Fault>
-    ensures ok { IfOk result (λ s. (t : Piece) (vs : Listed Tree) → t.token.place ≡ place → kept vs ≡ expr_part test ∷ tree body ∷ [] → Builds symbol.Stmt (token_part t ∷ vs) (tree s)) }
+    ensures ok { IfOk result (λ s. (t : Piece) (vs : Listed Tree) → t.token.sort ≡ sort.Word reserved.While → t.token.place ≡ place → kept vs ≡ expr_part test ∷ tree body ∷ [] → Builds symbol.Stmt (token_part t ∷ vs) (tree s)) }
     ensures err { IfErr result (λ e. e ≡ Fault.Memory) }
 {
     let body = boxed(alloc, body)?;
@@ -166,7 +168,7 @@ pub fn for_loop(
     advance: Option<Box<Stmt>>,
     body: Stmt,
 ) -> Result<Stmt, Fault>
-    ensures ok { IfOk result (λ s. (t u v w x : Piece) → t.token.place ≡ place
+    ensures ok { IfOk result (λ s. (t u v w x : Piece) → t.token.sort ≡ sort.Word reserved.For → t.token.place ≡ place
         → Builds symbol.Stmt (token_part t ∷ token_part u ∷ (if_there (λ y. tree y.value) start ++ token_part v ∷ (if_there expr_part test ++ token_part w ∷ (if_there (λ y. tree y.value) advance ++ token_part x ∷ tree body ∷ [])))) (tree s)) }
     ensures err { IfErr result (λ e. e ≡ Fault.Memory) }
 {

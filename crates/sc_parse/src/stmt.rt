@@ -14,10 +14,11 @@ impl Reader<'_> {
     ghost use Rattle.sc_parse.specs.Form as symbol;
     ghost use Rattle.sc_parse.specs.Form.{many, mark as mark_form, optional, sub, ◌⨾◌, ◌∣◌};
     ghost use Rattle.sc_parse.specs.Input.{input};
-    ghost use Rattle.sc_parse.specs.Reads.{Fails, Keeps, Makes, MakesAfter, Reads, Takes};
+    ghost use Rattle.sc_parse.specs.Reads.{Fails, Keeps, KeepsAfter, Makes, MakesAfter, Reads, Takes};
     ghost use Rattle.sc_parse.specs.Rules.{block as block_form, call_rest as call_form, for_loop as for_form, if_else as if_form, list, numbers as numbers_form, set_rest as set_form, step_up as step_form, while_loop as while_form, wires as wires_form};
     ghost use Rattle.sc_parse.specs.Trees.{decl as decl_part, each, expr as expr_part, if_there, init as init_part, meas as meas_part, name as name_part, num as num_part, stmt as tree, wire as wire_part};
     ghost use Rattle.sc_syntax.specs.declared.Mark.TheVariants as m;
+    ghost use Rattle.sc_syntax.specs.declared.TokenSort.TheVariants as sort;
 
     /// Takes the word that declares wires.
     pub fn wire(&self, at: &mut usize, depth: u32) -> Result<(Class, Place), Fault>
@@ -221,7 +222,7 @@ impl Reader<'_> {
         requires within { at.old ≤ length (input self.now) }
         requires shallow { depth ≤ 129 }
         ensures cases { MatchResult result
-            (λ es. Keeps call_form depth (input self.now) at.old at.new (each expr_part es))
+            (λ es. KeepsAfter call_form (sort.Mark m.OpenParen) depth (input self.now) at.old at.new (each expr_part es))
             (Fails call_form depth (input self.now) at.old) }
         ensures moves { OnOk result (at.old < at.new) }
     {

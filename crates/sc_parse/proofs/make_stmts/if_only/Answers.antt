@@ -5,4 +5,4 @@ use Rattle.sc_parse.specs.Derives.{if_is}
 use Rattle.sc_parse.proofs.make_stmts.if_only.Goals as goal
 
 pub returns-clause-ok : goal.returns-clause-ok
-returns-clause-ok c = λ t vs e k. rw (← e) (if_is {s = c.in_ok-yes.yes} (k ∙ ap (λ (x : Stmt). expr c.args.test ∷ stmt x ∷ []) (sym c.in_ok-yes.ensures.ok)))
+returns-clause-ok c = λ t vs i e k. rw (← e) (if_is {s = c.in_ok-yes.yes} i (k ∙ ap (λ (x : Stmt). expr c.args.test ∷ stmt x ∷ []) (sym c.in_ok-yes.ensures.ok)))

@@ -32,7 +32,7 @@ stmt-returns-in_err-place-clause-cases t c =
     rw (p.1, p.2) (fails_sub (fails_nested (fails_right b0 (fails_right b1 (fails_left b2 (c.in_err-place.ensures))))))
 
 pub stmt-returns-then-is_mark-clause-cases : goal.stmt-returns-then-is_mark-clause-cases
-stmt-returns-then-is_mark-clause-cases t c = let b0 = sym c.begins.ensures ∙ c.if-begins.false in let b1 = sym c.begins-2.ensures ∙ c.if-begins-2.false in let b2 = sym c.is_mark.ensures ∙ c.if-is_mark.true in reads_sub (reads_nested (reads_right b0 (reads_right b1 (reads_left b2 c.in_ok-place.ensures.takes.reads)))) (rw (← c.in_ok-place.ensures.stands) empty_is)
+stmt-returns-then-is_mark-clause-cases t c = let b0 = sym c.begins.ensures ∙ c.if-begins.false in let b1 = sym c.begins-2.ensures ∙ c.if-begins-2.false in let b2 = sym c.is_mark.ensures ∙ c.if-is_mark.true in reads_sub (reads_nested (reads_right b0 (reads_right b1 (reads_left b2 c.in_ok-place.ensures.takes.reads)))) (rw (← c.in_ok-place.ensures.stands) (empty_is c.in_ok-place.ensures.is))
 
 pub stmt-returns-in_err-made-3-clause-cases : goal.stmt-returns-in_err-made-3-clause-cases
 stmt-returns-in_err-made-3-clause-cases t c =
@@ -114,7 +114,7 @@ block-returns-in_err-mark-clause-cases t c =
     rw (p.1, p.2) (fails_second c.in_ok-place.ensures.takes.reads (fails_second c.in_ok-items.ensures (c.in_err-mark.ensures)))
 
 pub block-returns-clause-cases : goal.block-returns-clause-cases
-block-returns-clause-cases t c = makes (reads_both c.in_ok-place.ensures.takes.reads (reads_both c.in_ok-items.ensures (c.in_ok-mark.ensures.takes.reads))) (rw (← c.in_ok-place.ensures.stands) (block_is c.in_ok-items.items (kept_end (each stmt c.in_ok-items.items.items) c.in_ok-mark.ensures.it ∙ kept-each c.in_ok-items.items.items)))
+block-returns-clause-cases t c = makes (reads_both c.in_ok-place.ensures.takes.reads (reads_both c.in_ok-items.ensures (c.in_ok-mark.ensures.takes.reads))) (rw (← c.in_ok-place.ensures.stands) (block_is c.in_ok-items.items c.in_ok-place.ensures.is (kept_end (each stmt c.in_ok-items.items.items) c.in_ok-mark.ensures.it ∙ kept-each c.in_ok-items.items.items)))
 
 pub if_else-returns-in_err-place-clause-cases : goal.if_else-returns-in_err-place-clause-cases
 if_else-returns-in_err-place-clause-cases t c =
@@ -147,7 +147,7 @@ if_else-returns-in_err-made-clause-cases t c =
     rw (p.1, p.2, c.in_err-made.ensures.err) (record { why = tt })
 
 pub if_else-returns-then-not-is_word-clause-cases : goal.if_else-returns-then-not-is_word-clause-cases
-if_else-returns-then-not-is_word-clause-cases t c = let b = sym c.is_word.ensures ∙ c.if-not-is_word.true in makes (reads_both c.in_ok-place.ensures.takes.reads (reads_both c.in_ok-mark.ensures.takes.reads (reads_both c.in_ok-test.ensures (reads_both c.in_ok-mark-2.ensures.takes.reads (reads_both c.in_ok-yes.ensures.cases ((reads_right b (reads_unless c.in_ok-yes.ensures.cases.within b)))))))) (c.in_ok-made.ensures.ok _ _ c.in_ok-place.ensures.stands refl)
+if_else-returns-then-not-is_word-clause-cases t c = let b = sym c.is_word.ensures ∙ c.if-not-is_word.true in makes (reads_both c.in_ok-place.ensures.takes.reads (reads_both c.in_ok-mark.ensures.takes.reads (reads_both c.in_ok-test.ensures (reads_both c.in_ok-mark-2.ensures.takes.reads (reads_both c.in_ok-yes.ensures.cases ((reads_right b (reads_unless c.in_ok-yes.ensures.cases.within b)))))))) (c.in_ok-made.ensures.ok _ _ c.in_ok-place.ensures.is c.in_ok-place.ensures.stands refl)
 
 pub if_else-returns-in_err-word-clause-cases : goal.if_else-returns-in_err-word-clause-cases
 if_else-returns-in_err-word-clause-cases t c =
@@ -165,7 +165,7 @@ if_else-returns-in_err-made-2-clause-cases t c =
     rw (p.1, p.2, c.in_err-made-2.ensures.err) (record { why = tt })
 
 pub if_else-returns-clause-cases : goal.if_else-returns-clause-cases
-if_else-returns-clause-cases t c = let b = sym c.is_word.ensures ∙ c.if-not-is_word.false in makes (reads_both c.in_ok-place.ensures.takes.reads (reads_both c.in_ok-mark.ensures.takes.reads (reads_both c.in_ok-test.ensures (reads_both c.in_ok-mark-2.ensures.takes.reads (reads_both c.in_ok-yes.ensures.cases ((reads_left b (reads_both c.in_ok-word.ensures.takes.reads c.in_ok-no.ensures.cases)))))))) (c.in_ok-made-2.ensures.ok _ _ c.in_ok-place.ensures.stands refl)
+if_else-returns-clause-cases t c = let b = sym c.is_word.ensures ∙ c.if-not-is_word.false in makes (reads_both c.in_ok-place.ensures.takes.reads (reads_both c.in_ok-mark.ensures.takes.reads (reads_both c.in_ok-test.ensures (reads_both c.in_ok-mark-2.ensures.takes.reads (reads_both c.in_ok-yes.ensures.cases ((reads_left b (reads_both c.in_ok-word.ensures.takes.reads c.in_ok-no.ensures.cases)))))))) (c.in_ok-made-2.ensures.ok _ _ c.in_ok-place.ensures.is c.in_ok-place.ensures.stands refl)
 
 pub while_loop-returns-in_err-place-clause-cases : goal.while_loop-returns-in_err-place-clause-cases
 while_loop-returns-in_err-place-clause-cases t c =
@@ -198,7 +198,7 @@ while_loop-returns-in_err-made-clause-cases t c =
     rw (p.1, p.2, c.in_err-made.ensures.err) (record { why = tt })
 
 pub while_loop-returns-clause-cases : goal.while_loop-returns-clause-cases
-while_loop-returns-clause-cases t c = makes (reads_both c.in_ok-place.ensures.takes.reads (reads_both c.in_ok-mark.ensures.takes.reads (reads_both c.in_ok-test.ensures (reads_both c.in_ok-mark-2.ensures.takes.reads (c.in_ok-body.ensures.cases))))) (c.in_ok-made.ensures.ok _ _ c.in_ok-place.ensures.stands refl)
+while_loop-returns-clause-cases t c = makes (reads_both c.in_ok-place.ensures.takes.reads (reads_both c.in_ok-mark.ensures.takes.reads (reads_both c.in_ok-test.ensures (reads_both c.in_ok-mark-2.ensures.takes.reads (c.in_ok-body.ensures.cases))))) (c.in_ok-made.ensures.ok _ _ c.in_ok-place.ensures.is c.in_ok-place.ensures.stands refl)
 
 pub for_loop-returns-in_err-place-clause-cases : goal.for_loop-returns-in_err-place-clause-cases
 for_loop-returns-in_err-place-clause-cases t c =
@@ -251,4 +251,4 @@ for_loop-returns-in_err-made-clause-cases t c =
     rw (p.1, p.2, c.in_err-made.ensures.err) (record { why = tt })
 
 pub for_loop-returns-clause-cases : goal.for_loop-returns-clause-cases
-for_loop-returns-clause-cases t c = makes (reads_both c.in_ok-place.ensures.takes.reads (reads_both c.in_ok-mark.ensures.takes.reads (reads_both c.in_ok-start.ensures (reads_both c.in_ok-mark-2.ensures.takes.reads (reads_both c.in_ok-test.ensures (reads_both c.in_ok-mark-3.ensures.takes.reads (reads_both c.in_ok-advance.ensures (reads_both c.in_ok-mark-4.ensures.takes.reads (c.in_ok-body.ensures.cases))))))))) (c.in_ok-made.ensures.ok _ _ _ _ _ c.in_ok-place.ensures.stands)
+for_loop-returns-clause-cases t c = makes (reads_both c.in_ok-place.ensures.takes.reads (reads_both c.in_ok-mark.ensures.takes.reads (reads_both c.in_ok-start.ensures (reads_both c.in_ok-mark-2.ensures.takes.reads (reads_both c.in_ok-test.ensures (reads_both c.in_ok-mark-3.ensures.takes.reads (reads_both c.in_ok-advance.ensures (reads_both c.in_ok-mark-4.ensures.takes.reads (c.in_ok-body.ensures.cases))))))))) (c.in_ok-made.ensures.ok _ _ _ _ _ c.in_ok-place.ensures.is c.in_ok-place.ensures.stands)

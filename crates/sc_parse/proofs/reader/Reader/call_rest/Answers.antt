@@ -21,4 +21,4 @@ returns-in_err-mark-2-clause-cases c =
     rw (p.1, p.2) (fails_second c.in_ok-mark.ensures.takes.reads (fails_second c.in_ok-args.ensures.reads (c.in_err-mark-2.ensures)))
 
 pub returns-clause-cases : goal.returns-clause-cases
-returns-clause-cases c = record { parts = token c.in_ok-mark.ensures.it ∷ (c.in_ok-args.ensures.parts ++ token c.in_ok-mark-2.ensures.it ∷ []); reads = reads_both c.in_ok-mark.ensures.takes.reads (reads_both c.in_ok-args.ensures.reads (c.in_ok-mark-2.ensures.takes.reads)); same = kept_end c.in_ok-args.ensures.parts c.in_ok-mark-2.ensures.it ∙ c.in_ok-args.ensures.same }
+returns-clause-cases c = record { it = c.in_ok-mark.ensures.it; is = c.in_ok-mark.ensures.is; parts = c.in_ok-args.ensures.parts ++ token c.in_ok-mark-2.ensures.it ∷ []; reads = reads_both c.in_ok-mark.ensures.takes.reads (reads_both c.in_ok-args.ensures.reads (c.in_ok-mark-2.ensures.takes.reads)); same = kept_end c.in_ok-args.ensures.parts c.in_ok-mark-2.ensures.it ∙ c.in_ok-args.ensures.same }

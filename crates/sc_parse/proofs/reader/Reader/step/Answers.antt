@@ -17,7 +17,7 @@ returns-in_err-args-clause-cases c =
     rw (p.1, p.2) (fails_sub (fails_left a (fails_second c.in_ok-name.ensures.reads (fails_left b (c.in_err-args.ensures.cases)))))
 
 pub returns-then-is_mark-clause-cases : goal.returns-then-is_mark-clause-cases
-returns-then-is_mark-clause-cases c = let a = sym c.begins.ensures ∙ c.if-begins.true in let b = sym c.is_mark.ensures ∙ c.if-is_mark.true in reads_sub (reads_left a (reads_both c.in_ok-name.ensures.reads (reads_left b c.in_ok-args.ensures.cases.reads))) (c.call-made.ensures c.in_ok-args.ensures.cases.parts c.in_ok-args.ensures.cases.same)
+returns-then-is_mark-clause-cases c = let a = sym c.begins.ensures ∙ c.if-begins.true in let b = sym c.is_mark.ensures ∙ c.if-is_mark.true in reads_sub (reads_left a (reads_both c.in_ok-name.ensures.reads (reads_left b c.in_ok-args.ensures.cases.reads))) (c.call-made.ensures _ c.in_ok-args.ensures.cases.parts c.in_ok-args.ensures.cases.is c.in_ok-args.ensures.cases.same)
 
 pub returns-in_err-made-clause-cases : goal.returns-in_err-made-clause-cases
 returns-in_err-made-clause-cases c =
@@ -49,4 +49,4 @@ pub gate-made-requires : goal.gate-made-requires
 gate-made-requires c = gate_sort _ _ (fits_of c.in_ok-token.ensures.0.reads.derives)
 
 pub returns-clause-cases : goal.returns-clause-cases
-returns-clause-cases c = let a = sym c.begins.ensures ∙ c.if-begins.false in let d = sym c.is_one_of.ensures ∙ c.if-is_one_of.false in reads_sub (reads_right a (reads_right d (reads_both c.in_ok-token.ensures.0.reads c.in_ok-args-2.ensures.cases.reads))) (c.gate-made.ensures _ c.in_ok-args-2.ensures.cases.parts refl c.in_ok-args-2.ensures.cases.same)
+returns-clause-cases c = let a = sym c.begins.ensures ∙ c.if-begins.false in let d = sym c.is_one_of.ensures ∙ c.if-is_one_of.false in reads_sub (reads_right a (reads_right d (reads_both c.in_ok-token.ensures.0.reads c.in_ok-args-2.ensures.cases.reads))) (c.gate-made.ensures _ _ refl c.in_ok-args-2.ensures.cases.same)
