@@ -38,6 +38,7 @@ use Rattle.sc_parse.proofs.Decoded.{words_parts, expr_there, exprs_each, decls_e
 
 -- ---- chains
 
+-- each level of operators is read off alike
 chain_build : (l : Level) (vs : List PureTree) → build_chain vs ≡ build (chain_of l) vs
 chain_build level.Or vs = refl
 chain_build level.And vs = refl
@@ -47,6 +48,7 @@ chain_build level.Shift vs = refl
 chain_build level.Sum vs = refl
 chain_build level.Product vs = refl
 
+-- each level of operators on words is read off alike
 word_chain_build : (l : WordLevel) (vs : List PureTree) → build_word_chain vs ≡ build (word_chain_of l) vs
 word_chain_build wlevel.Or vs = refl
 word_chain_build wlevel.Xor vs = refl
@@ -62,11 +64,13 @@ some_links : {l : Level} {vs : List Tree} {ls : List Link} (x : PureExpr) → Li
 some_links x no_links some = absurd (some refl)
 some_links x (one_link i b v p r) some = refl
 
+-- a chain of words with a link is read off as one
 some_word_links : {l : WordLevel} {vs : List Tree} {ls : List WordLink} (x : PureWordExpr) → WordLinked l vs ls → ls ≢ []
     → word_at x.place (PureWord.chain x.place x.node (the_word_links (pure vs))) ≡ build_word_chain (word_expr x ∷ pure vs)
 some_word_links x no_links some = absurd (some refl)
 some_word_links x (one_link i b v p r) some = refl
 
+-- a word with a shift is read off as one
 some_shifts : {vs : List Tree} {ls : List ShiftLink} (x : PureWordExpr) → ShiftLinked vs ls → ls ≢ []
     → word_at x.place (PureWord.shift x.place x.node (the_shifts (pure vs))) ≡ build_shift (word_expr x ∷ pure vs)
 some_shifts x no_links some = absurd (some refl)
@@ -79,6 +83,7 @@ set_closed : (m : Mark) (o : SetOp) → set_of m ≡ Some o → opens_mark m ≡
 set_closed mark.OpenParen o e = cc
 set_closed _ o e = refl
 
+-- a mark that sets without a value opens no arguments
 step_closed : (m : Mark) (o : SetOp) → step_of m ≡ Some o → opens_mark m ≡ false
 step_closed mark.OpenParen o e = cc
 step_closed _ o e = refl
@@ -89,11 +94,13 @@ measured_by : (n : Name) (i : Option Expr) (g : GateName) (o : Operand) (vs : Li
 measured_by n None g o vs = refl
 measured_by n (Some e) g o vs = refl
 
+-- a measurement is read off the kept parts
 measured_there : (n : Name) (i : Option Expr) (g : GateName) (o : Operand) (vs : List PureTree)
     → does n.place (PureAct.measure g (record { name = n; value = option_map pure_expr i }) (pure_operand o)) ≡ set_by (pure (tree.name n ∷ (if_there tree.expr i ++ tree.meas g o ∷ []))) vs
 measured_there n None g o vs = refl
 measured_there n (Some e) g o vs = refl
 
+-- a level of operators is no `Set`
 chain_no_set : (l : Level) → chain_of l ≡ symbol.Set → ⊥
 chain_no_set level.Or e = cc
 chain_no_set level.And e = cc
@@ -103,6 +110,7 @@ chain_no_set level.Shift e = cc
 chain_no_set level.Sum e = cc
 chain_no_set level.Product e = cc
 
+-- a level of operators on words is no `Set`
 word_chain_no_set : (l : WordLevel) → word_chain_of l ≡ symbol.Set → ⊥
 word_chain_no_set wlevel.Or e = cc
 word_chain_no_set wlevel.Xor e = cc
@@ -134,6 +142,7 @@ named_call n [] vs = refl
 named_call n (e ∷ []) vs = refl
 named_call n (e ∷ d ∷ es) vs = refl
 
+-- a call of a gate keeps no measurement
 gate_call : (es : List Expr) (vs : List PureTree) → step_all vs ≡ step_by (pure (each tree.expr es)) vs
 gate_call [] vs = refl
 gate_call (e ∷ es) vs = refl
@@ -150,6 +159,7 @@ abbrev for_parts : Piece → Piece → Piece → Piece → Option (Box Stmt Glob
 for_parts u v w x a c b s =
     tree.token u ∷ (if_there (λ y. tree.stmt y.value) a ++ tree.token v ∷ (if_there tree.expr b ++ tree.token w ∷ (if_there (λ y. tree.stmt y.value) c ++ tree.token x ∷ tree.stmt s.value ∷ [])))
 
+-- a `for` is read off the parts behind its word
 for_there : (p : Place) (u v w x : Piece) (a c : Option (Box Stmt Global)) (b : Option Expr) (s : Box Stmt Global)
     → does p (pure_act (act.For a b c s)) ≡ for_by p (pure (for_parts u v w x a c b s))
 for_there p u v w x None None None s = refl
@@ -179,6 +189,7 @@ for_first u v w x (Some a) (Some c) (Some b) s vs = refl
 abbrev function_parts : WordFn → List PureTree
 function_parts f = pure (words_parts f.params f.width f.binds f.result)
 
+-- what parts of a phrase stand for is what is read off them
 pub built_as : {s : Symbol} {vs : List Tree} {v : Tree} → Builds s vs v → pure_tree v ≡ build s (pure vs)
 built_as name_is = refl
 built_as main_name_is = refl

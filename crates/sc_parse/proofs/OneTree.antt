@@ -49,13 +49,16 @@ apart f st su never differs p r s =
 abbrev Same : List Piece → List Piece → List Tree → List Tree → Type 0
 Same rest rest' vs ws = (rest ≡ rest') × (pure vs ≡ pure ws)
 
+-- the same parts joined are the same
 joined : (vs vs' ws ws' : List Tree) → pure vs ≡ pure vs' → pure ws ≡ pure ws' → pure (vs ++ ws) ≡ pure (vs' ++ ws')
 joined vs vs' ws ws' a b =
     map-append pure_tree vs ws ∙ ap (λ (l : List PureTree). l ++ pure ws) a ∙ ap (λ (l : List PureTree). pure vs' ++ l) b ∙ sym (map-append pure_tree vs' ws')
 
+-- the same parts stand for the same
 built_same : {s : Symbol} {vs ws : List Tree} {v w : Tree} → Builds s vs v → Builds s ws w → pure vs ≡ pure ws → pure (v ∷ []) ≡ pure (w ∷ [])
 built_same {s = s} b c e = ap (λ (t : PureTree). t ∷ []) (built_as b ∙ ap (build s) e ∙ sym (built_as c))
 
+-- two phrases of one form in the same tokens, with the rest of the stack behind each
 same : {f : Form} {ts rest rest' : List Piece} {vs ws : List Tree} → Derives f ts rest vs → Derives f ts rest' ws → (st : Stack) → Good ((0, f) ∷ st)
     → Rest st rest → Rest st rest' → Same rest rest' vs ws
 same nothing nothing st good r s = (refl, refl)

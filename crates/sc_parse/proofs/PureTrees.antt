@@ -31,6 +31,7 @@ pub data PureTree : Type 0 where
   word_param : WordParam → PureTree
   bind : PureBind → PureTree
 
+-- a part without its addresses
 abbrev pub pure_tree : Tree → PureTree
 pure_tree (tree.token t) = token t
 pure_tree (tree.name n) = name n
@@ -48,6 +49,7 @@ pure_tree (tree.word_expr e) = word_expr (pure_word_expr e)
 pure_tree (tree.word_param p) = word_param p
 pure_tree (tree.bind b) = bind (pure_bind b)
 
+-- parts without their addresses
 abbrev pub pure : List Tree → List PureTree
 pure vs = map pure_tree vs
 
@@ -57,6 +59,7 @@ keep [] = []
 keep (token p ∷ vs) = keep vs
 keep (v ∷ vs) = v ∷ keep vs
 
+-- the parts that are no tokens stay the same without their addresses
 pub kept_pure : (vs : List Tree) → keep (pure vs) ≡ pure (kept vs)
 kept_pure [] = refl
 kept_pure (tree.token t ∷ vs) = kept_pure vs
