@@ -26,3 +26,8 @@ pub mod FormedChains
 pub mod FormedSteps
 pub mod FormedPhrases
 pub mod FormedSources
+pub mod PureTrees
+pub mod Decode
+pub mod Decoded
+pub mod BuiltAs
+pub mod OneTree

@@ -77,11 +77,11 @@ apart st su a (x ∷ xs) (y ∷ ys) h i e =
     let same : x.it ≡ y.it = cc in
     absurd (a (kind y.it) (subst (λ (t : Piece). NextIn st (kind t)) same (FrontOf-start st x xs h)) (FrontOf-start su y ys i))
 
-only_left : (d : ℕ) (f g : Form) (st : Stack) → Good ((d, f ∣ g) ∷ st) → (k : Terminal) → NextIn ((d, f) ∷ st) k → NextIn ((d, g) ∷ st) k → ⊥
+pub only_left : (d : ℕ) (f g : Form) (st : Stack) → Good ((d, f ∣ g) ∷ st) → (k : Terminal) → NextIn ((d, f) ∷ st) k → NextIn ((d, g) ∷ st) k → ⊥
 only_left d f g st good k (inl b) n = good.0.3 k b n
 only_left d f g st good k (inr (p, q)) n = clash (passes f (Some k)) p (good.0.2 (Some k))
 
-only_again : (d : ℕ) (f : Form) (st : Stack) → Good ((d, many f) ∷ st) → (k : Terminal) → NextIn ((d, f) ∷ (d, many f) ∷ st) k → NextIn st k → ⊥
+pub only_again : (d : ℕ) (f : Form) (st : Stack) → Good ((d, many f) ∷ st) → (k : Terminal) → NextIn ((d, f) ∷ (d, many f) ∷ st) k → NextIn st k → ⊥
 only_again d f st good k (inl b) n = good.0.2 k b n
 only_again d f st good k (inr (p, q)) n = clash (passes f (Some k)) p (good.0.1 (Some k))
 

@@ -1,4 +1,5 @@
 use Rattle.sc_parse.proofs.FormedSources.{source_formed}
+use Rattle.sc_parse.proofs.OneTree.{one_tree}
 use Rattle.sc_parse.proofs.Unique.{one_nesting}
 use Rattle.sc_parse.proofs.source.parse.Goals as goal
 
@@ -16,3 +17,15 @@ returns-in-Err-TooNested-clause-one_nesting c = one_nesting
 
 pub returns-in-Err-Memory-clause-one_nesting : goal.returns-in-Err-Memory-clause-one_nesting
 returns-in-Err-Memory-clause-one_nesting c = one_nesting
+
+pub returns-in-Ok-clause-one_tree : goal.returns-in-Ok-clause-one_tree
+returns-in-Ok-clause-one_tree c = one_tree
+
+pub returns-in-Err-Syntax-clause-one_tree : goal.returns-in-Err-Syntax-clause-one_tree
+returns-in-Err-Syntax-clause-one_tree c = one_tree
+
+pub returns-in-Err-TooNested-clause-one_tree : goal.returns-in-Err-TooNested-clause-one_tree
+returns-in-Err-TooNested-clause-one_tree c = one_tree
+
+pub returns-in-Err-Memory-clause-one_tree : goal.returns-in-Err-Memory-clause-one_tree
+returns-in-Err-Memory-clause-one_tree c = one_tree
