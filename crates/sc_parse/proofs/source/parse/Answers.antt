@@ -1,5 +1,6 @@
 use Rattle.sc_parse.proofs.FormedSources.{source_formed}
 use Rattle.sc_parse.proofs.Unique.{one_nesting}
+use Rattle.sc_parse.proofs.OneFault.{one_fault}
 use Rattle.sc_parse.proofs.source.parse.Goals as goal
 
 pub returns-in-Ok-clause-formed : goal.returns-in-Ok-clause-formed
@@ -16,3 +17,15 @@ returns-in-Err-TooNested-clause-one_nesting c = one_nesting
 
 pub returns-in-Err-Memory-clause-one_nesting : goal.returns-in-Err-Memory-clause-one_nesting
 returns-in-Err-Memory-clause-one_nesting c = one_nesting
+
+pub returns-in-Ok-clause-one_fault : goal.returns-in-Ok-clause-one_fault
+returns-in-Ok-clause-one_fault c = one_fault
+
+pub returns-in-Err-Syntax-clause-one_fault : goal.returns-in-Err-Syntax-clause-one_fault
+returns-in-Err-Syntax-clause-one_fault c = one_fault
+
+pub returns-in-Err-TooNested-clause-one_fault : goal.returns-in-Err-TooNested-clause-one_fault
+returns-in-Err-TooNested-clause-one_fault c = one_fault
+
+pub returns-in-Err-Memory-clause-one_fault : goal.returns-in-Err-Memory-clause-one_fault
+returns-in-Err-Memory-clause-one_fault c = one_fault
