@@ -19,14 +19,14 @@ start = (0, source) ∷ []
 pub start_good : Good start
 start_good = (Ok-from source (λ h. false) (λ h. ⊥) (λ h x. absurd x) refl, tt)
 
-front-of : (xs : List Marked) → FrontOf start xs → Front source 0 xs
+pub front-of : (xs : List Marked) → FrontOf start xs → Front source 0 xs
 front-of xs (inl h) = h
 front-of xs (inr (mid, p, n)) = all_of_it (subst (λ (m : List Marked). Phrase source 0 xs m) n p)
 
 whole-of : (xs : List Marked) → WholeOf start xs → Phrase source 0 xs []
 whole-of xs (mid, p, n) = subst (λ (m : List Marked). Phrase source 0 xs m) n p
 
-length-bare : (xs : List Marked) → length (bare xs) ≡ length xs
+pub length-bare : (xs : List Marked) → length (bare xs) ≡ length xs
 length-bare [] = refl
 length-bare (x ∷ xs) = ap suc (length-bare xs)
 
@@ -34,7 +34,7 @@ length-bare (x ∷ xs) = ap suc (length-bare xs)
 front_part : (a b ts : List Piece) (n : ℕ) → a ++ b ≡ ts → length a ≡ n → a ≡ take n ts
 front_part a b ts n e l = sym (take-append_seam a b) ∙ ap (λ (c : List Piece). take (length a) c) e ∙ ap (λ (m : ℕ). take m ts) l
 
-shallow_at : (zs : List Marked) (x : Marked) (ws : List Marked) → IsShallow ((zs ++ x ∷ []) ++ ws) → x.depth ≤ 128
+pub shallow_at : (zs : List Marked) (x : Marked) (ws : List Marked) → IsShallow ((zs ++ x ∷ []) ++ ws) → x.depth ≤ 128
 shallow_at [] x ws h = h.0
 shallow_at (z ∷ zs) x ws h = shallow_at zs x ws h.1
 

@@ -7,6 +7,7 @@ pub mod Begins
 pub mod Exact
 pub mod Headline
 pub mod Unique
+pub mod OneFault
 pub mod Steps
 pub mod Forget
 pub mod Levels

@@ -15,7 +15,7 @@ use Rattle.sc_parse.proofs.Headline.{start_good}
 use Rattle.sc_parse.specs.Grammar.{HasOneNesting}
 
 -- a front, read form by form
-data Path : Stack → List Marked → Type 0 where
+pub data Path : Stack → List Marked → Type 0 where
   stop : {st : Stack} → Path st []
   take : {k : Terminal} {d : ℕ} {st : Stack} (x : Marked) {xs : List Marked} → fits k (kind x.it) ≡ true → x.depth ≡ d → Path st xs → Path ((d, one k) ∷ st) (x ∷ xs)
   skip : {d : ℕ} {st : Stack} {xs : List Marked} → Path st xs → Path ((d, empty) ∷ st) xs
@@ -40,7 +40,7 @@ path_phrase (deeper a) st p = down (path_phrase a st p)
 path_phrase (not_next n) st p = pass n p
 path_phrase (whole a) st p = into (path_phrase a st p)
 
-path_front : {f : Form} {d : ℕ} {xs : List Marked} → Front f d xs → (st : Stack) → Path ((d, f) ∷ st) xs
+pub path_front : {f : Form} {d : ℕ} {xs : List Marked} → Front f d xs → (st : Stack) → Path ((d, f) ∷ st) xs
 path_front nothing_yet st = stop
 path_front (all_of_it p) st = path_phrase p st stop
 path_front (in_first {g = g} {d = d} h) st = split (path_front h ((d, g) ∷ st))
@@ -52,7 +52,7 @@ path_front (in_later {f = f} {d = d} p h) st = again (path_phrase p ((d, many f)
 path_front (in_deeper h) st = down (path_front h st)
 path_front (in_rule h) st = into (path_front h st)
 
-front_of_path : {st : Stack} {xs : List Marked} → Path st xs → FrontOf st xs
+pub front_of_path : {st : Stack} {xs : List Marked} → Path st xs → FrontOf st xs
 front_of_path {st = st} stop = front_nothing st
 front_of_path (take x {xs = xs} e i p) = inr (xs, one_token x e i, front_of_path p)
 front_of_path {xs = xs} (skip p) = inr (xs, nothing, front_of_path p)

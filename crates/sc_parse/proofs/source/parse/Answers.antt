@@ -1,4 +1,5 @@
 use Rattle.sc_parse.proofs.FormedSources.{source_formed}
+use Rattle.sc_parse.proofs.OneFault.{one_fault}
 use Rattle.sc_parse.proofs.OneTree.{one_tree}
 use Rattle.sc_parse.proofs.Unique.{one_nesting}
 use Rattle.sc_parse.proofs.source.parse.Goals as goal
@@ -29,3 +30,15 @@ returns-in-Err-TooNested-clause-one_tree c = one_tree
 
 pub returns-in-Err-Memory-clause-one_tree : goal.returns-in-Err-Memory-clause-one_tree
 returns-in-Err-Memory-clause-one_tree c = one_tree
+
+pub returns-in-Ok-clause-one_fault : goal.returns-in-Ok-clause-one_fault
+returns-in-Ok-clause-one_fault c = one_fault
+
+pub returns-in-Err-Syntax-clause-one_fault : goal.returns-in-Err-Syntax-clause-one_fault
+returns-in-Err-Syntax-clause-one_fault c = one_fault
+
+pub returns-in-Err-TooNested-clause-one_fault : goal.returns-in-Err-TooNested-clause-one_fault
+returns-in-Err-TooNested-clause-one_fault c = one_fault
+
+pub returns-in-Err-Memory-clause-one_fault : goal.returns-in-Err-Memory-clause-one_fault
+returns-in-Err-Memory-clause-one_fault c = one_fault
