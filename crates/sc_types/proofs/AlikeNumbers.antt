@@ -9,12 +9,12 @@ use Rattle.sc_syntax.specs.declared.NumSort.{NumSort}
 use Rattle.sc_syntax.specs.declared.Expr.{Expr}
 use Rattle.sc_syntax.specs.declared.Node as node
 use Rattle.sc_syntax.specs.declared.Node.{Node, Index', Paren', Unary', Chain', Pick', Row_of-Link, end_of-Link, more_of-Link}
-use Rattle.sc_syntax.specs.Alike.{PureNode, PureLinks, int, decimal, name, index, paren, unary, chain, pick, no_links, link, pure_node, pure_links, PureExpr, pure_expr}
+use Rattle.sc_syntax.specs.Alike.{PureNode, PureLinks, int, decimal, name, index, paren, unary, chain, pick, no_links, link, pure_node, pure_links, pure_expr}
 use Rattle.sc_syntax.specs.Kind.{Kinds, ◌>>=◌, kind_of_operation, kind_of_unary, wider, kind_of_node, kind_of_row, kind_of_expr}
 use Rattle.sc_types.specs.declared.fault.TypeFault.TheVariants.{WrongKind}
 use Rattle.sc_types.specs.declared.want.Want.{Want}
 use Rattle.sc_types.specs.declared.want.Want.TheVariants.{OneWire, ManyWires, Word, AnInt, ADouble}
-use Rattle.sc_types.specs.Checks.{Check, check}
+use Rattle.sc_types.specs.Checks.{check}
 use Rattle.sc_types.specs.Numbers.{may_operate, number_node, number_row, number_checks, is_int, int_checks}
 use Rattle.sc_types.specs.Wires.{is_wire, suits_indexed, wire_node, argument_checks, arguments_checks}
 use Rattle.sc_types.proofs.AlikeRows.{Each, none, next}

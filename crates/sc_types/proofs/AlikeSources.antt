@@ -1,7 +1,6 @@
 -- Alike sources have the same checks.
 use Rattle.std.proofs.Common.{◌≡◌, ℕ, suc, ◌+◌, Bool, true, false, ◌&&◌, if◌then◌else◌, List, [], ◌∷◌, ◌++◌, length, map, Option, Some, None, refl, sym, ◌∙◌}
 use Rattle.std.specs.Prelude.{not, nat_eq, option_map, find, replicate, codes}
-use Rattle.std.specs.List.{list_any}
 use Rattle.sc_base.specs.Texts.{same}
 use Rattle.sc_base.specs.declared.Class.{Class}
 use Rattle.sc_syntax.specs.declared.Expr.{Expr}
@@ -19,13 +18,12 @@ use Rattle.sc_syntax.specs.declared.Sort.TheVariants as sort
 use Rattle.sc_syntax.specs.declared.WordFn.{WordFn}
 use Rattle.sc_syntax.specs.Kind.{Kinds}
 use Rattle.sc_syntax.specs.Alike.{pure_expr, pure_sort, pure_param, pure_stmt, pure_bind, pure_word_expr, pure_part}
-use Rattle.sc_types.specs.declared.want.Want.{Want}
 use Rattle.sc_types.specs.declared.want.Want.TheVariants.{OneWire, ManyWires, Word}
 use Rattle.sc_types.specs.declared.fault.TypeFault.TheVariants.{Redefined, NoMain}
-use Rattle.sc_types.specs.Checks.{Check, check, first_fault}
+use Rattle.sc_types.specs.Checks.{check, first_fault}
 use Rattle.sc_types.specs.Declarations.{Declaration, declared_kind, or_pi, is_new}
-use Rattle.sc_types.specs.Statements.{in_turn, param_want, part_wants, part_name, named_wants}
-use Rattle.sc_types.specs.Sources.{is_int_named, or_later, length_kinds, param_kind, length_checks, walk_params, walk_stmts, walk_module, of_word, part_checks, name_of, is_new_part, parts_checks, is_main, checks}
+use Rattle.sc_types.specs.Statements.{in_turn, param_want, part_wants, part_name}
+use Rattle.sc_types.specs.Sources.{is_int_named, or_later, length_kinds, param_kind, length_checks, walk_params, walk_stmts, walk_module, of_word, part_checks, name_of, is_new_part, parts_checks, is_main}
 use Rattle.sc_types.specs.Typing.{HasOneFault}
 use Rattle.sc_types.proofs.AlikeRows.{Each, each, none, next, each_append, length_alike, any_alike, Held, absent, held, held_of}
 use Rattle.sc_types.proofs.AlikeNumbers.{int_expr}

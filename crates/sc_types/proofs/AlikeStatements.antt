@@ -22,14 +22,14 @@ use Rattle.sc_syntax.specs.declared.Act as act
 use Rattle.sc_syntax.specs.declared.Act.{Act, If', While', For', Block', Held-Act-If-2, None', Some', Row_of-Stmt, end_of-Stmt, more_of-Stmt}
 use Rattle.sc_syntax.specs.Alike.{PureExpr, pure_expr, PureNamed, pure_decl, pure_init, pure_operand, PureAct, PureHeld, PureStmts, wires, numbers, set, measure, call, if_else, while_loop, for_loop, block, empty, absent, held, no_stmts, stmt, pure_act, pure_held, pure_row}
 use Rattle.sc_syntax.specs.Kind.{Kinds, kind_of_expr}
-use Rattle.sc_types.specs.declared.fault.TypeFault.TheVariants.{UnknownName, WrongCount}
+use Rattle.sc_types.specs.declared.fault.TypeFault.TheVariants.{WrongCount}
 use Rattle.sc_types.specs.declared.want.Want.{Want}
 use Rattle.sc_types.specs.declared.want.Want.TheVariants.{OneWire}
 use Rattle.sc_types.specs.Checks.{Check, check}
 use Rattle.sc_types.specs.Declarations.{Declaration, Scope, kinds, with_pi, declared_kind, is_pi, is_new}
 use Rattle.sc_types.specs.Numbers.{number_checks, int_checks}
 use Rattle.sc_types.specs.Wires.{is_wire, suits, suits_indexed, operand_checks, gate_wants}
-use Rattle.sc_types.specs.Statements.{Walk, only, in_turn, optional, wire_kind, start_checks, walk_decls, walk_inits, may_set, number_of, set_by, fit_checks, set_checks, applied, called, call_checks, named_wants, walk_act, walk_held, walk_row}
+use Rattle.sc_types.specs.Statements.{only, in_turn, optional, wire_kind, start_checks, walk_decls, walk_inits, may_set, number_of, set_by, fit_checks, set_checks, applied, called, call_checks, named_wants, walk_act, walk_held, walk_row}
 use Rattle.sc_types.proofs.AlikeRows as rows
 use Rattle.sc_types.proofs.AlikeRows.{Each, each, none, next, length_alike, Held, held_of}
 use Rattle.sc_types.proofs.AlikeNumbers.{kind_expr, number_expr, int_expr, arguments_alike}

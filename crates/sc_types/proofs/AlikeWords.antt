@@ -7,13 +7,12 @@ use Rattle.sc_syntax.specs.declared.Width.{Width}
 use Rattle.sc_syntax.specs.declared.ShiftLink.{ShiftLink}
 use Rattle.sc_syntax.specs.declared.Bind.{Bind}
 use Rattle.sc_syntax.specs.declared.WordFn.{WordFn}
-use Rattle.sc_syntax.specs.declared.WordParam.{WordParam}
 use Rattle.sc_syntax.specs.declared.WordExpr.{WordExpr}
 use Rattle.sc_syntax.specs.declared.WordNode.{WordNode, Int, Name, Paren', Not', Chain', Shift', Pick', Ext', Low', Row_of-WordLink, end_of-WordLink, more_of-WordLink}
-use Rattle.sc_syntax.specs.Alike.{PureWord, PureWordLinks, not, shift, ext, low, pure_word, pure_word_links, PureWordExpr, pure_word_expr, PureBind, pure_bind}
+use Rattle.sc_syntax.specs.Alike.{PureWord, PureWordLinks, not, shift, ext, low, pure_word, pure_word_links, pure_word_expr, pure_bind}
 use Rattle.sc_word.specs.Words.{Words, named}
 use Rattle.sc_word.specs.Forms.{amount, own_width, shared, op_width, form_node, row_width, form}
-use Rattle.sc_word.specs.Checks.{Check, is_new, in_bounds, no_literal, meet, op_fits, bare_test, wide_test, shift_fits, ext_checks, low_checks, checks_node, checks_row, checks_expr, param_word, bind_word, checks_params, result_fits, checks_binds, checks}
+use Rattle.sc_word.specs.Checks.{is_new, in_bounds, no_literal, meet, op_fits, bare_test, wide_test, shift_fits, ext_checks, low_checks, checks_node, checks_row, checks_expr, param_word, checks_params, result_fits, checks_binds, checks}
 use Rattle.sc_types.proofs.AlikeRows.{Each, none, next}
 
 -- a node is one of a pure one
