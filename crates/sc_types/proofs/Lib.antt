@@ -1,4 +1,9 @@
 pub mod ActWalks
+pub mod AlikeNumbers
+pub mod AlikeRows
+pub mod AlikeSources
+pub mod AlikeStatements
+pub mod AlikeWords
 pub mod Arguments
 pub mod Blocks
 pub mod FirstPartsLemmas

@@ -6,6 +6,7 @@ use Rattle.sc_syntax.specs.declared.Part.{Part}
 use Rattle.sc_syntax.specs.declared.Part.TheVariants as part
 use Rattle.sc_syntax.specs.declared.WordFn.{WordFn}
 use Rattle.sc_syntax.specs.contracts.Source as source_type
+use Rattle.sc_syntax.specs.Alike.{Alike}
 use Rattle.sc_syntax.specs.Formed.{IsFormedSource}
 use Rattle.sc_word.specs.Typed.{TypedWords, TypesFn}
 use Rattle.sc_word.specs.Functions.{typed_words_code}
@@ -15,6 +16,10 @@ use Rattle.sc_types.specs.Sources.{is_main, fault_of}
 -- no check fails
 abbrev pub IsWellTyped : Source → Type 0
 IsWellTyped source = fault_of source ≡ None
+
+-- trees that differ only in where their boxes and lists lie in memory have one fault, or none
+abbrev pub HasOneFault : Type 0
+HasOneFault = (a b : Source) → Alike a b → fault_of a ≡ fault_of b
 
 -- the position of the module `main`
 abbrev pub main_at : Source → Option ℕ

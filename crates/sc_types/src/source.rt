@@ -7,6 +7,7 @@ ghost use Rattle.sc_syntax.specs.FormedWords.{max_items};
 ghost use Rattle.sc_types.specs.Checks.{check as one_check, first_fault};
 ghost use Rattle.sc_types.specs.Positions.{first_at};
 ghost use Rattle.sc_types.specs.Sources.{is_main as is_main_part, fault_of};
+ghost use Rattle.sc_types.specs.Typing.{HasOneFault};
 
 use crate::checked::Checked;
 use crate::fault::TypeFault;
@@ -54,6 +55,7 @@ pub fn check(alloc: Global, source: Source) -> Result<Checked, TypeFault>
     ensures source { IfOk result (λ c. c.source ≡ source) }
     ensures none { OnOk result (fault_of source ≡ None) }
     ensures fault { IfErr result (λ f. f ≢ TypeFault.Memory → fault_of source ≡ Some f) }
+    ensures one_fault { HasOneFault }
 {
     let words = check_parts(alloc, source.parts.as_slice())?;
     let main = main_of(source.parts.as_slice())?;

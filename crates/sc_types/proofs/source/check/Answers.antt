@@ -7,6 +7,7 @@ use Rattle.sc_types.specs.Checks.{check, first_fault}
 use Rattle.sc_types.specs.Positions.{first_at}
 use Rattle.sc_types.specs.Sources.{parts_checks, is_main}
 use Rattle.sc_types.specs.Typing.{AreTyped}
+use Rattle.sc_types.proofs.AlikeSources.{one_fault}
 use Rattle.sc_types.proofs.PartLemmas.{source_fails, source_ends}
 use Rattle.sc_types.proofs.source.check.Goals as goal
 
@@ -33,3 +34,12 @@ new-requires c = record {
   words = subst (λ (ps : List Part). AreTyped ps c.in_ok-words.words) c.as_slice.ensures c.in_ok-words.ensures.typed;
   main_is = ap (first_at is_main) (sym c.as_slice-2.ensures) ∙ c.in_ok-main.ensures.main;
 }
+
+pub returns-in_err-words-clause-one_fault : goal.returns-in_err-words-clause-one_fault
+returns-in_err-words-clause-one_fault c = one_fault
+
+pub returns-in_err-main-clause-one_fault : goal.returns-in_err-main-clause-one_fault
+returns-in_err-main-clause-one_fault c = one_fault
+
+pub returns-clause-one_fault : goal.returns-clause-one_fault
+returns-clause-one_fault c = one_fault
