@@ -285,7 +285,12 @@ const WITHOUT_MAIN: [&str; 4] = [
 ];
 
 /// Sources that are well typed.
-const WELL_TYPED: [&str; 14] = [
+const WELL_TYPED: [&str; 17] = [
+    // of the first form
+    "int main() { qbit q[2]; H(q[0]); CNOT(q[0],q[1]); return 0; }",
+    "int main() { qbit M_PI[3]; qbit main[1]; X(main[0]); CNOT(M_PI[2],main[0]); }",
+    "int main() { qbit ext[1]; Tdag(ext[0]); qbit low[65535]; Sdag(low[65534]); return 0; }",
+    // and of others
     "int main() { int x; { double x; } if (1) qbit x; else cbit x; while (0) int x; x = 1; }",
     "int main() { for (int x = 0; x < 1; x++) double x; for (int x = 0; x < 1; x++) { qbit x; H(x); } }",
     "module m(int n) { { qbit n; H(n); } for (double n = 0; n < 1; n += 1) { } } int main() { }",

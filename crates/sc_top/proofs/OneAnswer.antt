@@ -1,5 +1,5 @@
 -- A text has one answer at most.
-use Rattle.std.proofs.Common.{◌≡◌, ◌≢◌, ℕ, ◌≤◌, List, length, Option, None, Some, refl, sym, ◌∙◌, ap, subst, inl, inr, arith}
+use Rattle.std.proofs.Common.{◌≡◌, ◌≢◌, ℕ, ◌≤◌, ◌<◌, List, length, Option, None, Some, refl, sym, ◌∙◌, ap, subst, inl, inr, arith}
 use Rattle.sc_syntax.proofs.Once.{no_tokens}
 use Rattle.sc_syntax.specs.Lexing.{IsLexed}
 use Rattle.sc_syntax.specs.declared.Source.{Source}

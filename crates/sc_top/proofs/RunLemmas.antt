@@ -12,10 +12,11 @@ use Rattle.sc_syntax.specs.declared.Source.{Source}
 use Rattle.sc_types.specs.Sources.{fault_of}
 use Rattle.sc_types.specs.declared.fault.TypeFault.{TypeFault}
 use Rattle.sc_types.specs.declared.fault.TypeFault.TheVariants as typing
-use Rattle.sc_top.specs.Fault.{status_of, token_fault, grammar_fault, type_fault}
+use Rattle.sc_top.specs.Fault.{status_of, fault_line, token_fault, grammar_fault, type_fault}
 use Rattle.sc_top.specs.First.{Made}
 use Rattle.sc_top.specs.declared.fault.Fault.{Fault}
 use Rattle.sc_top.specs.declared.fault.Fault.TheVariants.{Usage, ReadFault, SourceTooLarge, At, NoMain, Unbuilt, Memory, WriteFault}
+use Rattle.sc_top.specs.declared.status.Status.{Status}
 use Rattle.sc_top.specs.declared.status.Status.TheVariants as status
 use Rattle.sc_top.proofs.OneAnswer.{one_answer}
 
@@ -139,3 +140,9 @@ pub not_done : {held : Option (List ℕ)} {text : List ℕ} {fault : Fault} {Wri
 not_done {text = text} {fault = fault} {Written = Written} holds has (other, is, done) =
     let here = subst (IsWritten Written) (same_text (sym is ∙ holds)) done in
     not_written (one_answer text (written here.made) (refused fault) (here.within, here.first) has)
+
+-- how a request is answered that is refused for one fault, or memory is wanting
+pub refused_for : (Line : List ℕ → Type 0) (result : Status) (found fault : Fault) → result ≡ status_of found → Line (fault_line found) → (found ≡ Memory) ⊎ (found ≡ fault) →
+    (result ≡ status.Memory) ⊎ ((result ≡ status_of fault) × Line (fault_line fault))
+refused_for Line result found fault is line (inl memory) = inl (is ∙ ap status_of memory)
+refused_for Line result found fault is line (inr same) = inr (is ∙ ap status_of same, subst (λ (f : Fault). Line (fault_line f)) same line)

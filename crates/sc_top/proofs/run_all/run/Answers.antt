@@ -1,8 +1,8 @@
-use Rattle.std.proofs.Common.{IsTrue, map, refl, ap, inr, sym, ◌∙◌, arith}
+use Rattle.std.proofs.Common.{IsTrue, map, refl, ap, inl, inr, sym, ◌∙◌, arith}
 use Rattle.std.specs.Rc.{rc_str_bytes}
 use Rattle.sc_base.specs.Causes.{Rose}
-use Rattle.sc_top.specs.Fault.{status_of}
-use Rattle.sc_top.proofs.RunLemmas.{cause_asked, cause_told, only_memory, same_text}
+use Rattle.sc_top.specs.Fault.{status_of, Tells}
+use Rattle.sc_top.proofs.RunLemmas.{cause_asked, cause_told, only_memory, only_this, refused_for, same_text}
 use Rattle.sc_top.proofs.run_all.run.Goals as goal
 use Rattle.sc_top.proofs.run_all.run.Goals.{in-Err-Usage, in-Err-Memory, in-Ok+in-Err}
 
@@ -42,4 +42,26 @@ returns-clause-complete g c = λ name text made asked told holds within first sh
           w.in-Err.fault
           (cause_told (IsTrue (g.F.Shelf.tells_held c.args.shelf.now)) (g.F.Shelf.held c.args.shelf.now w.as_bytes.result.now)
           (Rose (g.F.Shelf.faults c.args.shelf.now) (g.F.Shelf.faults w.flat.new.shelf)) (Rose (g.O.Sink.faults c.args.out.now) (g.O.Sink.faults w.flat.new.out)) w.in-Err.fault told w.in-Err.ensures.cause))
+    ]
+
+pub returns-clause-refused : goal.returns-clause-refused
+returns-clause-refused g c = λ name text fault asked told holds has shelf_stood out_stood.
+    elim c.match-read_words.branch [
+      | in-Err-Usage w ↦
+          let usage = rw w.in-Err-Usage.field-0-is at w.in-Err-Usage.ensures.usage in
+          absurd (let both = sym (usage.0 refl) ∙ asked in cc)
+      | in-Err-Memory w ↦ inl (c.status.ensures ∙ ap status_of w.fault-is)
+      | in-Ok+in-Err w ↦
+          let named = w.as_bytes.ensures ∙ w.file.ensures ∙ same_text (sym w.in-Ok.ensures.asked ∙ asked) in
+          let shelf_still = rw w.shelf-is at shelf_stood in
+          let out_still = rw w.out-is at out_stood in
+          let found = only_this
+            (ap (g.F.Shelf.held c.args.shelf.now) named ∙ holds) has
+            (λ (rose : Rose (g.F.Shelf.faults c.args.shelf.now) (g.F.Shelf.faults w.flat.new.shelf)). omega arith)
+            (λ (rose : Rose (g.O.Sink.faults c.args.out.now) (g.O.Sink.faults w.flat.new.out)). omega arith)
+            w.in-Err.fault
+            (cause_told (IsTrue (g.F.Shelf.tells_held c.args.shelf.now)) (g.F.Shelf.held c.args.shelf.now w.as_bytes.result.now)
+            (Rose (g.F.Shelf.faults c.args.shelf.now) (g.F.Shelf.faults w.flat.new.shelf)) (Rose (g.O.Sink.faults c.args.out.now) (g.O.Sink.faults w.flat.new.out)) w.in-Err.fault told w.in-Err.ensures.cause) in
+          refused_for (Tells g.E.Sink.tells g.E.Sink.bytes g.E.Sink.is_ended g.E.Sink.faults c.args.err.now c.tell.new.err) _ c.match-read_words.fault fault c.status.ensures
+          (rw (c.as_bytes-2.ensures, c.line.ensures) at c.tell.ensures.told) (rw w.fault-is found)
     ]
