@@ -8,7 +8,7 @@ use Rattle.sc_parse.specs.declared.reader.Fault.{Fault}
 use Rattle.sc_parse.specs.declared.terminal.Terminal.{Terminal}
 use Rattle.sc_parse.specs.declared.terminal.Terminal.TheVariants.{Name as any_name}
 use Rattle.sc_parse.specs.Pieces.{Piece, next}
-use Rattle.sc_parse.specs.Form.{Form, one, sub, ◌⨾◌, many}
+use Rattle.sc_parse.specs.Form.{one, sub, ◌⨾◌}
 use Rattle.sc_parse.specs.Form as symbol
 use Rattle.sc_parse.specs.Rules.{chain_of, operand, operator, chain}
 use Rattle.sc_parse.specs.Trees.{Tree, token, expr}

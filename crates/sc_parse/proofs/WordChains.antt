@@ -11,7 +11,7 @@ use Rattle.sc_syntax.specs.declared.Width.{Width as WidthTree}
 use Rattle.sc_parse.specs.declared.terminal.Terminal.{Terminal}
 use Rattle.sc_parse.specs.declared.terminal.Terminal.TheVariants.{Ext, Low}
 use Rattle.sc_parse.specs.Pieces.{Piece, kind, next}
-use Rattle.sc_parse.specs.Form.{Form, one, sub, choice, ◌⨾◌, ◌∣◌, many}
+use Rattle.sc_parse.specs.Form.{one, sub, choice, ◌⨾◌, ◌∣◌}
 use Rattle.sc_parse.specs.Form as symbol
 use Rattle.sc_parse.specs.Rules.{word_chain_of, word_operand, word_operator, word_chain, shift_marks}
 use Rattle.sc_parse.specs.Trees.{Tree, token, word_expr, width}

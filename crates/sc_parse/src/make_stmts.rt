@@ -124,7 +124,8 @@ pub fn gate(token: Token, args: List<Expr>) -> Stmt
 
 /// An `if` without an `else`.
 pub fn if_only(alloc: Global, place: Place, test: Expr, yes: Stmt) -> Result<Stmt, Fault>
-    ensures ok { IfOk result (λ s. (t : Piece) (vs : Listed Tree) → t.token.sort ≡ sort.Word reserved.If → t.token.place ≡ place → kept vs ≡ expr_part test ∷ tree yes ∷ [] → Builds symbol.Stmt (token_part t ∷ vs) (tree s)) }
+    ensures ok { IfOk result (λ s. (t : Piece) (vs : Listed Tree) → t.token.sort ≡ sort.Word reserved.If → t.token.place ≡ place
+        → kept vs ≡ expr_part test ∷ tree yes ∷ [] → Builds symbol.Stmt (token_part t ∷ vs) (tree s)) }
     ensures err { IfErr result (λ e. e ≡ Fault.Memory) }
 {
     let yes = boxed(alloc, yes)?;
@@ -136,7 +137,8 @@ pub fn if_only(alloc: Global, place: Place, test: Expr, yes: Stmt) -> Result<Stm
 
 /// An `if` with an `else`.
 pub fn if_else(alloc: Global, place: Place, test: Expr, yes: Stmt, no: Stmt) -> Result<Stmt, Fault>
-    ensures ok { IfOk result (λ s. (t : Piece) (vs : Listed Tree) → t.token.sort ≡ sort.Word reserved.If → t.token.place ≡ place → kept vs ≡ expr_part test ∷ tree yes ∷ tree no ∷ [] → Builds symbol.Stmt (token_part t ∷ vs) (tree s)) }
+    ensures ok { IfOk result (λ s. (t : Piece) (vs : Listed Tree) → t.token.sort ≡ sort.Word reserved.If → t.token.place ≡ place
+        → kept vs ≡ expr_part test ∷ tree yes ∷ tree no ∷ [] → Builds symbol.Stmt (token_part t ∷ vs) (tree s)) }
     ensures err { IfErr result (λ e. e ≡ Fault.Memory) }
 {
     let yes = boxed(alloc, yes)?;
@@ -149,7 +151,8 @@ pub fn if_else(alloc: Global, place: Place, test: Expr, yes: Stmt, no: Stmt) -> 
 
 /// A `while`.
 pub fn while_loop(alloc: Global, place: Place, test: Expr, body: Stmt) -> Result<Stmt, Fault>
-    ensures ok { IfOk result (λ s. (t : Piece) (vs : Listed Tree) → t.token.sort ≡ sort.Word reserved.While → t.token.place ≡ place → kept vs ≡ expr_part test ∷ tree body ∷ [] → Builds symbol.Stmt (token_part t ∷ vs) (tree s)) }
+    ensures ok { IfOk result (λ s. (t : Piece) (vs : Listed Tree) → t.token.sort ≡ sort.Word reserved.While → t.token.place ≡ place
+        → kept vs ≡ expr_part test ∷ tree body ∷ [] → Builds symbol.Stmt (token_part t ∷ vs) (tree s)) }
     ensures err { IfErr result (λ e. e ≡ Fault.Memory) }
 {
     let body = boxed(alloc, body)?;

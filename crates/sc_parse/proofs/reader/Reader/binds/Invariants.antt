@@ -1,5 +1,5 @@
 use Rattle.std.proofs.Common.{◌-◌, length}
-use Rattle.sc_parse.specs.Form.{sub, ◌∣◌}
+use Rattle.sc_parse.specs.Form.{sub}
 use Rattle.sc_parse.specs.Form as symbol
 use Rattle.sc_parse.specs.Input.{input}
 use Rattle.sc_parse.specs.Trees.{each, bind}
