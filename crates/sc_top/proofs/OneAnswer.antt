@@ -1,20 +1,18 @@
 -- A text has one answer at most.
-use Rattle.std.proofs.Common.{◌≡◌, ◌≢◌, ℕ, ◌≤◌, ◌<◌, List, length, Option, None, Some, refl, sym, ◌∙◌, ap, subst, inl, inr, arith}
+use Rattle.std.proofs.Common.{◌≡◌, ℕ, ◌≤◌, ◌<◌, List, length, Option, None, Some, refl, sym, ◌∙◌, ap, subst, inl, inr, arith}
 use Rattle.sc_syntax.proofs.Once.{no_tokens}
-use Rattle.sc_syntax.specs.Lexing.{IsLexed}
 use Rattle.sc_syntax.specs.declared.Source.{Source}
 use Rattle.sc_syntax.specs.declared.Token.{Token}
 use Rattle.sc_parse.proofs.OneFault.{one_fault}
 use Rattle.sc_parse.proofs.OneTree.{one_tree}
-use Rattle.sc_parse.specs.Grammar.{IsAccepted, IsRefused, IsTreeOf}
-use Rattle.sc_parse.specs.Pieces.{pieces}
+use Rattle.sc_parse.specs.Grammar.{IsRefused, IsTreeOf}
 use Rattle.sc_types.proofs.AlikeSources.{one_fault as one_type_fault}
 use Rattle.sc_types.specs.Sources.{fault_of}
 use Rattle.sc_types.specs.declared.fault.TypeFault.{TypeFault}
 use Rattle.sc_top.proofs.FirstForm.{first_form_is_typed}
 use Rattle.sc_top.proofs.OneCircuit.{one_circuit}
 use Rattle.sc_top.proofs.SameTokens.{same_tokens, same_fault}
-use Rattle.sc_top.specs.Answers.{most_bytes, IsTooLarge, HasTree, IsMisparsed, IsMistaken, IsTypedText, IsUnbuilt, IsFirstSource, Cause, Answer, written, refused, IsAnswer, HasOneAnswer}
+use Rattle.sc_top.specs.Answers.{most_bytes, HasTree, IsMisparsed, IsMistaken, IsTypedText, IsUnbuilt, IsFirstSource, written, refused, IsAnswer, HasOneAnswer}
 use Rattle.sc_top.specs.Fault.{token_fault, grammar_fault, type_fault}
 use Rattle.sc_top.specs.First.{Made, IsFirstForm}
 use Rattle.sc_top.specs.declared.fault.Fault.{Fault}
