@@ -33,11 +33,13 @@ mutual
     pick_is : {b1 b2 b3 : _} {p1 p2 p3 : Place} {x1 x2 x3 : PureNode} {n1 n2 n3 : Node}
         → IsNode x1 n1 → IsNode x2 n2 → IsNode x3 n3 → IsNode (pick p1 x1 p2 x2 p3 x3) (Pick' b1 p1 n1 b2 p2 n2 b3 p3 n3)
 
+  -- the same of the links of a chain
   data AreLinks : PureLinks → (m : Count) → Row_of-Link m → Type 0 where
     no_links_are : AreLinks no_links none_left end_of-Link
     link_are : {o : BinOp} {at p : Place} {x : PureNode} {n : Node} {ls : PureLinks} {m : Count} {rest : Row_of-Link m}
         → IsNode x n → AreLinks ls m rest → AreLinks (link o at p x ls) _ (more_of-Link o at p n rest)
 
+-- a node is one of its pure node
 mutual
   node_is : (n : Node) → IsNode (pure_node n) n
   node_is (node.Int n) = int_is
@@ -55,6 +57,7 @@ mutual
 
 -- ---- nodes of one pure node
 
+-- they have one kind
 mutual
   kind_node : {x : PureNode} {n m : Node} (ks : Kinds) → IsNode x n → IsNode x m → kind_of_node ks n ≡ kind_of_node ks m
   kind_node ks int_is int_is = refl
@@ -72,6 +75,7 @@ mutual
   kind_row ks a no_links_are no_links_are = refl
   kind_row ks a (link_are {o = o} h hs) (link_are g gs) = λ i. kind_node ks h g i >>= λ b. kind_of_operation o a b >>= λ c. kind_row ks c hs gs i
 
+-- they have the same checks
 mutual
   number_alike : {x : PureNode} {n m : Node} (ks : Kinds) (at : Place) → IsNode x n → IsNode x m → number_node ks at n ≡ number_node ks at m
   number_alike ks at int_is int_is = refl
@@ -90,11 +94,12 @@ mutual
   row_alike ks a (link_are {o = o} {at = at} {p = p} h hs) (link_are g gs) =
       λ i. number_alike ks p h g i ++ may_operate at o a (kind_node ks h g i) ∷ row_alike ks (a >>= λ x. kind_node ks h g i >>= kind_of_operation o x) hs gs i
 
--- that the number at a node is an int
+-- the same where an int is needed
 int_alike : {x : PureNode} {n m : Node} (ks : Kinds) (at : Place) → IsNode x n → IsNode x m
     → int_checks ks (record { place = at; node = n }) ≡ int_checks ks (record { place = at; node = m })
 int_alike ks at h g = λ i. number_alike ks at h g i ++ check (is_int (kind_node ks h g i)) (WrongKind at) ∷ []
 
+-- the same where a wire is needed
 wire_alike : {x : PureNode} {n m : Node} (ks : Kinds) (want : Want) (at : Place) → IsNode x n → IsNode x m → wire_node ks want at n ≡ wire_node ks want at m
 wire_alike ks want at int_is int_is = refl
 wire_alike ks want at decimal_is decimal_is = refl
@@ -107,16 +112,18 @@ wire_alike ks want at (pick_is h1 h2 h3) (pick_is g1 g2 g3) = refl
 
 -- ---- alike expressions
 
--- what nodes of one pure node have in common at a place, alike expressions have in common
+-- what is the same of nodes of one pure node is the same of alike expressions
 over : {A : Type 0} (f : Place → Node → A) → ((at : Place) (x : PureNode) (n m : Node) → IsNode x n → IsNode x m → f at n ≡ f at m)
     → (d e : Expr) → pure_expr d ≡ pure_expr e → f d.place d.node ≡ f e.place e.node
 over f h d e same =
     let left : IsNode (pure_node e.node) d.node = subst (λ x. IsNode x d.node) (λ i. (same i).node) (node_is d.node) in
     λ i. h (same i).place (pure_node e.node) d.node e.node left (node_is e.node) i
 
+-- alike expressions have one kind
 pub kind_expr : (ks : Kinds) (d e : Expr) → pure_expr d ≡ pure_expr e → kind_of_expr ks d ≡ kind_of_expr ks e
 kind_expr ks = over (λ at n. kind_of_node ks n) (λ at x n m h g. kind_node ks h g)
 
+-- alike expressions have the same checks where a number is needed, an int, a wire, an argument
 pub number_expr : (ks : Kinds) (d e : Expr) → pure_expr d ≡ pure_expr e → number_checks ks d ≡ number_checks ks e
 number_expr ks = over (number_node ks) (λ at x n m h g. number_alike ks at h g)
 
@@ -133,6 +140,7 @@ argument_expr ks (OneWire c) = wire_expr ks (OneWire c)
 argument_expr ks (ManyWires c) = wire_expr ks (ManyWires c)
 argument_expr ks Word = wire_expr ks Word
 
+-- alike arguments have the same checks
 pub arguments_alike : (ks : Kinds) (wants : List Want) {ds es : List Expr} → Each pure_expr ds es → arguments_checks ks wants ds ≡ arguments_checks ks wants es
 arguments_alike ks [] h = refl
 arguments_alike ks (w ∷ ws) none = refl

@@ -39,6 +39,7 @@ data SameSort : Sort → Sort → Type 0 where
   an_int : SameSort sort.Int sort.Int
   a_double : SameSort sort.Double sort.Double
 
+-- sorts that are alike are of one form
 same_sort : (s t : Sort) → pure_sort s ≡ pure_sort t → SameSort s t
 same_sort (sort.One c) (sort.One d) e = let wires : c ≡ d = cc in one_wire wires
 same_sort (sort.Many c a) (sort.Many d b) e =
@@ -47,9 +48,11 @@ same_sort sort.Int sort.Int e = an_int
 same_sort sort.Double sort.Double e = a_double
 same_sort _ _ e = absurd cc
 
+-- alike parameters have alike sorts
 param_sort : (p q : Param) → pure_param p ≡ pure_param q → SameSort p.sort q.sort
 param_sort p q same = same_sort p.sort q.sort (λ i. (same i).sort)
 
+-- alike sorts have one kind, want the same and have the same checks
 kind_alike : {s t : Sort} → SameSort s t → param_kind s ≡ param_kind t
 kind_alike (one_wire h) = λ i. kind.One (h i)
 kind_alike (many_wires h k) = λ i. kind.Many (h i)
@@ -69,6 +72,7 @@ length_checks_alike ks (many_wires h (held {x = d} {y = e} k)) = int_expr ks d e
 length_checks_alike ks an_int = refl
 length_checks_alike ks a_double = refl
 
+-- alike parameters are ints of a name together
 int_named : (name : List ℕ) (p q : Param) → pure_param p ≡ pure_param q → is_int_named name p ≡ is_int_named name q
 int_named name p q h = λ i. by (h i).name (param_sort p q h) i
   where
@@ -78,13 +82,16 @@ int_named name p q h = λ i. by (h i).name (param_sort p q h) i
     by n an_int = refl
     by n a_double = refl
 
+-- alike later parameters give a name one meaning
 later_alike : (name : List ℕ) (k : Option Kind) {ps qs : List Param} → Each pure_param ps qs → or_later ps name k ≡ or_later qs name k
 later_alike name (Some k) h = refl
 later_alike name None h = λ i. if any_alike pure_param (is_int_named name) (int_named name) h i then Some (kind.Number num.Int) else None
 
+-- the same in a length
 length_kinds_alike : (before : List Declaration) {ps qs : List Param} → Each pure_param ps qs → length_kinds before ps ≡ length_kinds before qs
 length_kinds_alike before h = λ i name. or_pi name (later_alike name (declared_kind before [] name) h i)
 
+-- alike parameters are walked alike
 params_alike : (before : List Declaration) {ps qs : List Param} → Each pure_param ps qs → walk_params before ps ≡ walk_params before qs
 params_alike before none = refl
 params_alike before (next {x = p} {y = q} h hs) =
@@ -93,18 +100,21 @@ params_alike before (next {x = p} {y = q} h hs) =
       declares = record { name = (h i).name.text; kind = kind_alike (param_sort p q h) i; scope = [] } ∷ [];
     }) (λ known. params_alike known hs i)
 
+-- alike parameters want the same
 params_want : {ps qs : List Param} → Each pure_param ps qs → map (λ p. param_want p.sort) ps ≡ map (λ p. param_want p.sort) qs
 params_want none = refl
 params_want (next {x = p} {y = q} h hs) = λ i. want_alike (param_sort p q h) i ∷ params_want hs i
 
 -- ---- modules
 
+-- alike statements of a body are walked alike
 body_alike : (ps qs : List Part) → SameWants ps qs → (before : List Declaration) (n : ℕ) {ss ts : List Stmt} → Each pure_stmt ss ts
     → walk_stmts ps before n ss ≡ walk_stmts qs before n ts
 body_alike ps qs wants before n none = refl
 body_alike ps qs wants before n (next {x = s} {y = t} h hs) =
     λ i. in_turn before (act_alike ps qs wants before [] (n ∷ []) s.act t.act (λ j. (h j).act) i) (λ known. body_alike ps qs wants known (suc n) hs i)
 
+-- alike modules are walked alike
 module_alike : (ps qs : List Part) → SameWants ps qs → (m k : Module) → Each pure_param m.params k.params → Each pure_stmt m.body k.body
     → walk_module ps m ≡ walk_module qs k
 module_alike ps qs wants m k params body = λ i. in_turn [] (params_alike [] params i) (λ known. body_alike ps qs wants known 0 body i)
@@ -117,6 +127,7 @@ data SamePart : Part → Part → Type 0 where
   words : {f g : WordFn} → f.name ≡ g.name → f.params ≡ g.params → f.width ≡ g.width → Each pure_bind f.binds g.binds
       → pure_word_expr f.result ≡ pure_word_expr g.result → SamePart (part.Words f) (part.Words g)
 
+-- parts that are alike are of one name and form
 same_part : (p q : Part) → pure_part p ≡ pure_part q → SamePart p q
 same_part (part.Module m) (part.Module k) e =
     let name : m.name ≡ k.name = cc in
@@ -132,6 +143,7 @@ same_part (part.Words f) (part.Words g) e =
     words name params width (each pure_bind f.binds g.binds binds) result
 same_part _ _ e = absurd cc
 
+-- alike parts have one name, take the same, have the same checks and are `main` together
 name_alike : {p q : Part} → SamePart p q → name_of p ≡ name_of q
 name_alike (modules name params body) = name
 name_alike (words name params width binds result) = name
@@ -167,11 +179,13 @@ same_wants (next {x = p} {y = q} {xs = ps} {ys = qs} h hs) name =
     first true p r = refl
     first false p r = refl
 
+-- alike parts are new together behind alike ones
 new_part_alike : {es fs : List Part} → Each pure_part es fs → (p q : Part) → SamePart p q → is_new_part es p ≡ is_new_part fs q
 new_part_alike earlier p q h =
     λ i. check (not (any_alike pure_part (λ r. same (part_name_alike h i) (part_name r))
     (λ r s k. λ j. same (part_name_alike h i) (part_name_alike (same_part r s k) j)) earlier i)) (Redefined (name_alike h i).place)
 
+-- alike parts behind alike ones have the same checks
 parts_alike : (all others : List Part) → SameWants all others → {ps qs : List Part} → Each pure_part ps qs → {es fs : List Part} → Each pure_part es fs
     → parts_checks all es ps ≡ parts_checks others fs qs
 parts_alike all others wants none earlier = refl

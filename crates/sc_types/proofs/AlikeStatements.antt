@@ -53,15 +53,18 @@ mutual
     block_is : {xs : PureStmts} {shape : _} {row : _} → AreStmts xs _ row → IsAct (block xs) (Block' shape row)
     empty_is : IsAct empty act.Empty
 
+  -- the same of a statement that may be absent
   data IsHeld : PureHeld → Held-Act-If-2 → Type 0 where
     absent_is : IsHeld absent None'
     held_is : {b : _} {p : Place} {x : PureAct} {a : Act} → IsAct x a → IsHeld (held p x) (Some' b p a)
 
+  -- the same of the statements of a block
   data AreStmts : PureStmts → (m : Count) → Row_of-Stmt m → Type 0 where
     no_stmts_are : AreStmts no_stmts none_left end_of-Stmt
     stmt_are : {p : Place} {x : PureAct} {a : Act} {xs : PureStmts} {m : Count} {rest : Row_of-Stmt m}
         → IsAct x a → AreStmts xs m rest → AreStmts (stmt p x xs) _ (more_of-Stmt p a rest)
 
+-- a statement is one of its pure statement
 mutual
   act_is : (a : Act) → IsAct (pure_act a) a
   act_is (act.Wires c ds) = wires_is refl
@@ -69,15 +72,15 @@ mutual
   act_is (act.Set s) = set_is refl
   act_is (act.Measure m) = measure_is refl refl
   act_is (act.Call c) = call_is refl
-  act_is (If' e b p a other) = if_is refl (act_is a) (held_is_pure other)
+  act_is (If' e b p a other) = if_is refl (act_is a) (maybe_is other)
   act_is (While' e b p a) = while_is refl (act_is a)
-  act_is (For' start test advance b p a) = for_is (held_is_pure start) refl (held_is_pure advance) (act_is a)
+  act_is (For' start test advance b p a) = for_is (maybe_is start) refl (maybe_is advance) (act_is a)
   act_is (Block' shape row) = block_is (stmts_are row)
   act_is act.Empty = empty_is
 
-  held_is_pure : (a : Held-Act-If-2) → IsHeld (pure_held a) a
-  held_is_pure None' = absent_is
-  held_is_pure (Some' b p a) = held_is (act_is a)
+  maybe_is : (a : Held-Act-If-2) → IsHeld (pure_held a) a
+  maybe_is None' = absent_is
+  maybe_is (Some' b p a) = held_is (act_is a)
 
   stmts_are : {m : Count} (row : Row_of-Stmt m) → AreStmts (pure_row row) m row
   stmts_are end_of-Stmt = no_stmts_are
@@ -85,15 +88,18 @@ mutual
 
 -- ---- the parts of a statement
 
+-- checks of an expression that may be absent
 pub optional_alike : (checks : Expr → List Check) → ((d e : Expr) → pure_expr d ≡ pure_expr e → checks d ≡ checks e)
     → {a b : Option Expr} → Held pure_expr a b → optional checks a ≡ optional checks b
 optional_alike checks h rows.absent = refl
 optional_alike checks h (rows.held {x = d} {y = e} same) = h d e same
 
+-- with a size or without, the kind is one
 wire_kind_alike : (c : Class) {a b : Option Expr} → Held pure_expr a b → wire_kind c a ≡ wire_kind c b
 wire_kind_alike c rows.absent = refl
 wire_kind_alike c (rows.held same) = refl
 
+-- alike declarations of wires
 decls_alike : (before : List Declaration) (scope : Scope) (c : Class) {ds es : List Decl} → Each pure_decl ds es → walk_decls before scope c ds ≡ walk_decls before scope c es
 decls_alike before scope c none = refl
 decls_alike before scope c (next {x = d} {y = e} h hs) =
@@ -103,10 +109,12 @@ decls_alike before scope c (next {x = d} {y = e} h hs) =
       declares = record { name = (h i).name.text; kind = wire_kind_alike c size i; scope = scope } ∷ [];
     }) (λ known. decls_alike known scope c hs i)
 
+-- alike starts
 start_expr : (ks : Kinds) (s : NumSort) (d e : Expr) → pure_expr d ≡ pure_expr e → start_checks ks s d ≡ start_checks ks s e
 start_expr ks num.Int = int_expr ks
 start_expr ks num.Double = number_expr ks
 
+-- alike declarations of numbers
 inits_alike : (before : List Declaration) (scope : Scope) (s : NumSort) {ds es : List Init} → Each pure_init ds es → walk_inits before scope s ds ≡ walk_inits before scope s es
 inits_alike before scope s none = refl
 inits_alike before scope s (next {x = d} {y = e} h hs) =
@@ -116,6 +124,7 @@ inits_alike before scope s (next {x = d} {y = e} h hs) =
       declares = record { name = (h i).name.text; kind = kind.Number s; scope = scope } ∷ [];
     }) (λ known. inits_alike known scope s hs i)
 
+-- alike operands of a measurement
 operand_alike : (ks : Kinds) (want : Want) (o p : Operand) → pure_operand o ≡ pure_operand p → operand_checks ks want o ≡ operand_checks ks want p
 operand_alike ks want o p same = by (held_of pure_expr o.index p.index (λ i. (same i).value))
   where
@@ -124,6 +133,7 @@ operand_alike ks want o p same = by (held_of pure_expr o.index p.index (λ i. (s
     by rows.absent = λ i. is_wire (suits want) (same i).name.place (ks (same i).name.text) ∷ []
     by (rows.held {x = d} {y = e} h) = λ i. is_wire (suits_indexed want) (same i).name.place (ks (same i).name.text) ∷ int_expr ks d e h i
 
+-- a name is set by alike expressions
 set_alike : (ks : Kinds) (name : Name) (op : SetOp) (at : Place) {a b : Option Expr} → Held pure_expr a b
     → set_checks ks (record { name = name; op = op; place = at; value = a }) ≡ set_checks ks (record { name = name; op = op; place = at; value = b })
 set_alike ks name op at h =
@@ -131,18 +141,22 @@ set_alike ks name op at h =
     ∷ optional_alike (λ e. number_checks (with_pi ks) e ++ fit_checks name.place at (number_of (ks name.text)) (set_by op) (kind_of_expr (with_pi ks) e))
     (λ d e same. λ j. number_expr (with_pi ks) d e same j ++ fit_checks name.place at (number_of (ks name.text)) (set_by op) (kind_expr (with_pi ks) d e same j)) h i
 
--- ---- calls; two lists of parts in which each name takes the same
+-- ---- calls
 
+-- two lists of parts in which each name takes the same
 abbrev pub SameWants : List Part → List Part → Type 0
 SameWants ps qs = (name : List ℕ) → named_wants ps name ≡ named_wants qs name
 
+-- the number of the arguments, and then the arguments
 applied_alike : (ks : Kinds) (at : Place) (wants : List Want) {ds es : List Expr} → Each pure_expr ds es → applied ks at wants ds ≡ applied ks at wants es
 applied_alike ks at wants h = λ i. check (nat_eq (length_alike h i) (length wants)) (WrongCount at) ∷ arguments_alike ks wants h i
 
+-- the same of a name that may be unknown
 called_alike : (ks : Kinds) (at : Place) (wants : Option (List Want)) {ds es : List Expr} → Each pure_expr ds es → called ks at wants ds ≡ called ks at wants es
 called_alike ks at None h = refl
 called_alike ks at (Some wants) h = applied_alike ks at wants h
 
+-- the same of each callee
 call_alike : (ps qs : List Part) → SameWants ps qs → (ks : Kinds) (callee : Callee) (at : Place) {ds es : List Expr} → Each pure_expr ds es
     → call_checks ps ks (record { callee = callee; place = at; args = ds }) ≡ call_checks qs ks (record { callee = callee; place = at; args = es })
 call_alike ps qs wants ks (Gate g) at h = λ i. applied_alike ks at (gate_wants g (length_alike h i)) h i
@@ -186,6 +200,7 @@ mutual
   stmts_alike ps qs wants before scope n (stmt_are h hs) (stmt_are g gs) =
       λ i. in_turn before (walk_alike ps qs wants before scope (scope ++ n ∷ []) h g i) (λ known. stmts_alike ps qs wants known scope (suc n) hs gs i)
 
+-- alike statements are walked alike
 pub act_alike : (ps qs : List Part) → SameWants ps qs → (before : List Declaration) (scope own : Scope) (a b : Act) → pure_act a ≡ pure_act b
     → walk_act ps before scope own a ≡ walk_act qs before scope own b
 act_alike ps qs wants before scope own a b same = walk_alike ps qs wants before scope own (subst (λ x. IsAct x a) same (act_is a)) (act_is b)

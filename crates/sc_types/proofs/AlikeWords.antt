@@ -30,11 +30,13 @@ mutual
     ext_is : {b : _} {p : Place} {x : PureWord} {n : WordNode} {w : Width} → IsWord x n → IsWord (ext p x w) (Ext' b p n w)
     low_is : {b : _} {p : Place} {x : PureWord} {n : WordNode} {w : Width} → IsWord x n → IsWord (low p x w) (Low' b p n w)
 
+  -- the same of the links of a chain
   data AreLinks : PureWordLinks → (m : Count) → Row_of-WordLink m → Type 0 where
     no_links_are : AreLinks PureWordLinks.no_links none_left end_of-WordLink
     link_are : {o : WordOp} {at p : Place} {x : PureWord} {n : WordNode} {ls : PureWordLinks} {m : Count} {rest : Row_of-WordLink m}
         → IsWord x n → AreLinks ls m rest → AreLinks (PureWordLinks.link o at p x ls) _ (more_of-WordLink o at p n rest)
 
+-- a node is one of its pure node
 mutual
   word_is : (n : WordNode) → IsWord (pure_word n) n
   word_is (Int n) = int_is
@@ -57,6 +59,7 @@ mutual
 abbrev word_of : ℕ → Words
 word_of w = named [] w ∷ []
 
+-- they have one form
 mutual
   form_alike : {x : PureWord} {n m : WordNode} (ws : Words) → IsWord x n → IsWord x m → form_node ws n ≡ form_node ws m
   form_alike ws int_is int_is = refl
@@ -74,6 +77,7 @@ mutual
   width_alike ws a no_links_are no_links_are = refl
   width_alike ws a (link_are {o = o} h hs) (link_are g gs) = λ i. width_alike ws (form_node (word_of (op_width o (shared a (form_alike ws h g i)))) (Name [])) hs gs i
 
+-- they have the same checks
 mutual
   word_alike : {x : PureWord} {n m : WordNode} (ws : Words) (at : Place) → IsWord x n → IsWord x m → checks_node ws at n ≡ checks_node ws at m
   word_alike ws at int_is int_is = refl
@@ -98,16 +102,18 @@ mutual
 
 -- ---- alike expressions
 
+-- of two alike expressions, the first is one of the second's pure node
 left_is : (d e : WordExpr) → pure_word_expr d ≡ pure_word_expr e → IsWord (pure_word e.node) d.node
 left_is d e same = subst (λ x. IsWord x d.node) (λ i. (same i).node) (word_is d.node)
 
+-- alike expressions have one form and the same checks
 form_expr : (ws : Words) (d e : WordExpr) → pure_word_expr d ≡ pure_word_expr e → form ws d ≡ form ws e
 form_expr ws d e same = form_alike ws (left_is d e same) (word_is e.node)
 
 word_expr : (ws : Words) (d e : WordExpr) → pure_word_expr d ≡ pure_word_expr e → checks_expr ws d ≡ checks_expr ws e
 word_expr ws d e same = λ i. word_alike ws (same i).place (left_is d e same) (word_is e.node) i
 
--- the bindings, and then the returned expression
+-- alike bindings, and then alike returned expressions
 binds_alike : (r s : WordExpr) → pure_word_expr r ≡ pure_word_expr s → (w : ℕ) (ws : Words) {bs cs : List Bind} → Each pure_bind bs cs
     → checks_binds ws bs r w ≡ checks_binds ws cs s w
 binds_alike r s same w ws none = λ i. word_expr ws r s same i ++ result_fits (same i).place (form_expr ws r s same i) w ∷ []

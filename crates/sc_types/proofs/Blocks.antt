@@ -1,5 +1,5 @@
 -- A block goes over its statements as a list.
-use Rattle.std.proofs.Common.{◌≡◌, List, [], ◌∷◌, Result, Ok, Err, refl, ap}
+use Rattle.std.proofs.Common.{◌≡◌, List, [], ◌∷◌, Result, Ok, refl, ap}
 use Rattle.std.specs.declared.alloc.Global.{Global}
 use Rattle.std.specs.declared.vec.Vec.{Vec}
 use Rattle.sc_syntax.specs.declared.Stmt.{Stmt}
@@ -10,10 +10,7 @@ use Rattle.sc_types.specs.declared.fault.TypeFault.{TypeFault}
 use Rattle.sc_types.specs.Scopes.{Stack, left}
 use Rattle.sc_types.specs.Sorts.{◌>>=◌}
 use Rattle.sc_types.specs.Walking.{act_on, row_on, stmts_on}
-
-bind_same : (r : Result Stack TypeFault) (f g : Stack → Result Stack TypeFault) → ((s : Stack) → f s ≡ g s) → (r >>= f) ≡ (r >>= g)
-bind_same (Ok s) f g h = h s
-bind_same (Err e) f g h = refl
+use Rattle.sc_types.proofs.Telling.{bind_same}
 
 row_stmts : {m : _} (parts : List Part) (row : Row_of-Stmt m) (stack : Stack) → row_on parts stack row ≡ stmts_on parts stack (items-the_row-Stmt m row)
 row_stmts parts end_of-Stmt stack = refl

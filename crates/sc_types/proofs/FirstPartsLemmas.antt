@@ -1,6 +1,6 @@
 -- The first parts of a list that grows, and what called names take by them.
-use Rattle.std.proofs.Common.{◌≡◌, ℕ, ◌+◌, ◌<◌, cond, List, [], ◌∷◌, ◌++◌, length, map, take, get_or, Option, Some, None, refl, sym, ap, subst, ◌∙◌, length-take, arith}
-use Rattle.std.proofs.lemmas.List.{take_more}
+use Rattle.std.proofs.Common.{◌≡◌, ℕ, ◌+◌, ◌<◌, cond, List, [], ◌∷◌, ◌++◌, length, map, take, get_or, Option, Some, None, refl, sym, ap, subst, ◌∙◌, arith}
+use Rattle.std.proofs.lemmas.List.{length-take-le, map_push}
 use Rattle.std.specs.Prelude.{slice_get}
 use Rattle.std.specs.Option.{option_or, option_and_then}
 use Rattle.sc_syntax.specs.declared.Part.{Part}
@@ -10,11 +10,7 @@ use Rattle.sc_types.specs.Sources.{name_of}
 use Rattle.sc_types.specs.Statements.{part_name, part_wants, named_wants}
 use Rattle.sc_types.specs.Tables.{Table, PutsNew, number_under}
 use Rattle.sc_types.specs.FirstParts.{has_name, AreFirst}
-use Rattle.sc_types.proofs.PositionLemmas.{first_at-push, found_first}
-
-map-push : {A B : Type 0} (f : A → B) (xs : List A) (x : A) → map f (xs ++ x ∷ []) ≡ map f xs ++ f x ∷ []
-map-push f [] x = refl
-map-push f (y ∷ xs) x = ap (λ l. f y ∷ l) (map-push f xs x)
+use Rattle.sc_types.proofs.PositionLemmas.{first_at-push, found_first, take_next}
 
 pub none_yet : AreFirst [] [] []
 none_yet = record { first = record { each = λ name. refl }; taken = refl }
@@ -27,22 +23,19 @@ one_more ps p old new ws vs h puts is = record {
         ∙ ap (λ (a : Option ℕ). option_or a (cond (has_name name p) (Some (length ps)) None)) (h.first.each name)
         ∙ sym (first_at-push (has_name name) ps p);
   };
-  taken = is ∙ ap (λ l. l ++ part_wants p ∷ []) h.taken ∙ sym (map-push part_wants ps p);
+  taken = is ∙ ap (λ l. l ++ part_wants p ∷ []) h.taken ∙ sym (map_push part_wants ps p);
 }
 
 pub name_text : (p : Part) → (name_of p).text ≡ part_name p
 name_text (part.Module m) = refl
 name_text (part.Words f) = refl
 
-taken_length : {A : Type 0} (i : ℕ) (xs : List A) → i < length xs → length (take i xs) ≡ i
-taken_length i xs within = omega (arith, length-take i xs)
-
 pub next_first : (all : List Part) (i : ℕ) (p : Part) (old new : Table) (ws vs : List (List Want)) → i < length all → p ≡ get_or all i p → AreFirst (take i all) old ws
     → PutsNew old (name_of p).text i new → vs ≡ ws ++ part_wants p ∷ [] → AreFirst (take (i + 1) all) new vs
 next_first all i p old new ws vs within is h puts pushed =
-    subst (λ (ps : List Part). AreFirst ps new vs) (sym (take_more all i p within ∙ ap (λ (q : Part). take i all ++ q ∷ []) (sym is)))
+    subst (λ (ps : List Part). AreFirst ps new vs) (sym (take_next all i p within is))
     (one_more (take i all) p old new ws vs h
-    (subst (λ (n : ℕ). PutsNew old (part_name p) n new) (sym (taken_length i all within)) (subst (λ (t : List ℕ). PutsNew old t i new) (name_text p) puts)) pushed)
+    (subst (λ (n : ℕ). PutsNew old (part_name p) n new) (sym (length-take-le i all (omega arith))) (subst (λ (t : List ℕ). PutsNew old t i new) (name_text p) puts)) pushed)
 
 -- what is found by the position of the first part is what the name takes
 pub wants_found : (ps : List Part) (table : Table) (ws : List (List Want)) (name : List ℕ) → AreFirst ps table ws

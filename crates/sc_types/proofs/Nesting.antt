@@ -6,6 +6,7 @@ use Rattle.std.specs.List.{list_any, AllByRecursion}
 use Rattle.std.specs.Option.{option_or}
 use Rattle.std.proofs.lemmas.List.{reverse-append}
 use Rattle.std.proofs.lemmas.List.Folds.{find-append, list_any-append}
+use Rattle.std.proofs.Math.Bool.{and-false, or-false}
 use Rattle.sc_base.specs.Texts.{same}
 use Rattle.sc_types.specs.Declarations.{Declaration, Scope, is_prefix, is_seen, declared_kind}
 use Rattle.sc_types.specs.Scopes.{Stack, Stands, kind_in}
@@ -45,14 +46,6 @@ last_none p (d ∷ ds) h =
 any_none : (p : Declaration → Bool) (ds : List Declaration) → AllByRecursion (λ d. p d ≡ false) ds → list_any p ds ≡ false
 any_none p [] h = refl
 any_none p (d ∷ ds) h = ap (λ b. b || list_any p ds) h.0 ∙ any_none p ds h.1
-
-and_false : (b : Bool) → (b && false) ≡ false
-and_false true = refl
-and_false false = refl
-
-or_false : (b : Bool) → (b || false) ≡ b
-or_false true = refl
-or_false false = refl
 
 -- ---- declarations beside a way and inside one
 
@@ -115,7 +108,7 @@ enter stack before place free h = record {
   is_open = omega arith;
   seen = h.seen;
   own = λ name. sym (any_none (λ d. same name d.name && same place d.scope) before (every_weaker (IsBeside place) (λ d. (same name d.name && same place d.scope) ≡ false)
-      (λ d b. ap (λ s. same name d.name && s) (same_longer place d.scope b.beside) ∙ and_false (same name d.name)) before free));
+      (λ d b. ap (λ s. same name d.name && s) (same_longer place d.scope b.beside) ∙ and-false (same name d.name)) before free));
 }
 
 -- what is declared further in is not seen at the place
@@ -127,16 +120,16 @@ leave stack before ds place i gone h = record {
       ∙ ap (λ r. option_or r (find (is_seen place name) (reverse before))) (last_none (is_seen place name) ds (unseen name))));
   own = λ name. h.own name ∙ sym (list_any-append (λ d. same name d.name && same place d.scope) before ds
       ∙ ap (λ b. list_any (λ d. same name d.name && same place d.scope) before || b) (any_none (λ d. same name d.name && same place d.scope) ds (others name))
-      ∙ or_false (list_any (λ d. same name d.name && same place d.scope) before));
+      ∙ or-false (list_any (λ d. same name d.name && same place d.scope) before));
 }
   where
     unseen : (name : List ℕ) → AllByRecursion (λ d. is_seen place name d ≡ false) ds
     unseen name = every_weaker (IsInside (place ++ i ∷ [])) (λ d. is_seen place name d ≡ false)
-        (λ d b. ap (λ s. same name d.name && s) (not_seen place d.scope i b.inside) ∙ and_false (same name d.name)) ds gone
+        (λ d b. ap (λ s. same name d.name && s) (not_seen place d.scope i b.inside) ∙ and-false (same name d.name)) ds gone
 
     others : (name : List ℕ) → AllByRecursion (λ d. (same name d.name && same place d.scope) ≡ false) ds
     others name = every_weaker (IsInside (place ++ i ∷ [])) (λ d. (same name d.name && same place d.scope) ≡ false)
-        (λ d b. ap (λ s. same name d.name && s) (not_same place d.scope i b.inside) ∙ and_false (same name d.name)) ds gone
+        (λ d b. ap (λ s. same name d.name && s) (not_same place d.scope i b.inside) ∙ and-false (same name d.name)) ds gone
 
 -- ---- room for the statements to come
 

@@ -1,6 +1,6 @@
 -- The parameters over the open scopes are walked as the model walks them.
-use Rattle.std.proofs.Common.{◌≡◌, ℕ, suc, ◌+◌, ◌<◌, Bool, cond, List, [], ◌∷◌, ◌++◌, length, take, get_or, Option, Some, None, Result, Ok, Err, refl, sym, ap, subst, ◌∙◌, append_assoc, length-append, length-take, arith}
-use Rattle.std.proofs.lemmas.List.{take_more}
+use Rattle.std.proofs.Common.{◌≡◌, ℕ, suc, ◌+◌, ◌<◌, Bool, cond, List, [], ◌∷◌, ◌++◌, length, take, get_or, Option, Some, None, Result, Ok, Err, refl, sym, ap, subst, ◌∙◌, append_assoc, length-append, arith}
+use Rattle.std.proofs.lemmas.List.{length-take-le}
 use Rattle.std.specs.List.{list_any}
 use Rattle.sc_syntax.specs.declared.Kind.{Kind}
 use Rattle.sc_syntax.specs.declared.Param.{Param}
@@ -15,7 +15,7 @@ use Rattle.sc_types.specs.Sources.{is_int_named, or_later, length_kinds, length_
 use Rattle.sc_types.specs.Statements.{Walk}
 use Rattle.sc_types.specs.Tables.{Table, number_under}
 use Rattle.sc_types.specs.Walking.{unless}
-use Rattle.sc_types.proofs.PositionLemmas.{last_at-push, is_later}
+use Rattle.sc_types.proofs.PositionLemmas.{last_at-push, is_later, take_next}
 use Rattle.sc_types.proofs.Standing.{declaration, begins}
 use Rattle.sc_types.proofs.Walks.{Walked, Tells, IsHere, nothing, turns, guarded, name_told}
 
@@ -24,17 +24,14 @@ use Rattle.sc_types.proofs.Walks.{Walked, Tells, IsHere, nothing, turns, guarded
 pub no_ints : FindsLastInt [] []
 no_ints = record { each = λ name. refl }
 
-taken_length : {A : Type 0} (i : ℕ) (xs : List A) → i < length xs → length (take i xs) ≡ i
-taken_length i xs within = omega (arith, length-take i xs)
-
 pub next_int : (all : List Param) (i : ℕ) (p : Param) (old new : Table) → i < length all → p ≡ get_or all i p → FindsLastInt (take i all) old → Notes old p i new
     → FindsLastInt (take (i + 1) all) new
 next_int all i p old new within is h notes = record {
   each = λ name. notes.each name
       ∙ ap (λ (a : Option ℕ). cond (is_int_named name p) (Some i) a) (h.each name)
-      ∙ ap (λ (n : ℕ). cond (is_int_named name p) (Some n) (last_at (is_int_named name) (take i all))) (sym (taken_length i all within))
+      ∙ ap (λ (n : ℕ). cond (is_int_named name p) (Some n) (last_at (is_int_named name) (take i all))) (sym (length-take-le i all (omega arith)))
       ∙ sym (last_at-push (is_int_named name) (take i all) p)
-      ∙ ap (last_at (is_int_named name)) (sym (take_more all i p within ∙ ap (λ (q : Param). take i all ++ q ∷ []) (sym is)));
+      ∙ ap (last_at (is_int_named name)) (sym (take_next all i p within is));
 }
 
 -- ---- what names mean in a length

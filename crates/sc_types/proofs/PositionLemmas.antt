@@ -1,5 +1,6 @@
 -- The first and the last that pass, in a list that grows or is read part by part.
-use Rattle.std.proofs.Common.{◌≡◌, ℕ, suc, Bool, true, false, cond, not, ◌||◌, List, [], ◌∷◌, ◌++◌, length, map, Option, Some, None, refl, sym, ap, ◌∙◌, eqb-true}
+use Rattle.std.proofs.Common.{◌≡◌, ℕ, suc, ◌+◌, ◌<◌, Bool, true, false, cond, not, ◌||◌, List, [], ◌∷◌, ◌++◌, length, map, take, get_or, Option, Some, None, refl, sym, ap, ◌∙◌, eqb-true}
+use Rattle.std.proofs.lemmas.List.{take_more}
 use Rattle.std.proofs.Math.Dec.{eqb-suc-suc, eqb-zero-suc, leb-suc-suc, leb-zero, leb-suc-zero}
 use Rattle.std.specs.Prelude.{find, option_map, is_some, slice_get}
 use Rattle.std.specs.Option.{option_or, option_and_then}
@@ -7,6 +8,10 @@ use Rattle.std.specs.List.{list_any}
 use Rattle.sc_types.specs.Positions.{first_at, last_at, is_position, is_past}
 
 -- ---- one more at the end
+
+-- the front up to an item and with it
+pub take_next : {A : Type 0} (xs : List A) (i : ℕ) (x : A) → i < length xs → x ≡ get_or xs i x → take (i + 1) xs ≡ take i xs ++ x ∷ []
+take_next xs i x within is = take_more xs i x within ∙ ap (λ y. take i xs ++ y ∷ []) (sym is)
 
 suc_or : (a : Option ℕ) (b : Bool) (n : ℕ) → option_map suc (option_or a (cond b (Some n) None)) ≡ option_or (option_map suc a) (cond b (Some (suc n)) None)
 suc_or (Some k) b n = refl

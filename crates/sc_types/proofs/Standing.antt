@@ -7,6 +7,7 @@ use Rattle.std.specs.Option.{option_or}
 use Rattle.std.specs.Cmp.Lexicographic.{same_text}
 use Rattle.std.proofs.lemmas.List.{reverse-append}
 use Rattle.std.proofs.lemmas.List.Folds.{list_any-append}
+use Rattle.std.proofs.Math.Bool.{or-false, or-true}
 use Rattle.sc_base.specs.Texts.{same}
 use Rattle.sc_syntax.specs.declared.Kind.{Kind}
 use Rattle.sc_syntax.specs.declared.Name.{Name}
@@ -54,14 +55,6 @@ or_some : (a : Option Kind) (x : Kind) → is_some (option_or a (Some x)) ≡ tr
 or_some None x = refl
 or_some (Some y) x = refl
 
-or_true : (b : Bool) → (b || true) ≡ true
-or_true true = refl
-or_true false = refl
-
-or_false : (b : Bool) → (b || false) ≡ b
-or_false true = refl
-or_false false = refl
-
 -- the declared name is in no scope but the innermost; every other name stays
 seen_declared : (stack : Stack) (before : List Declaration) (place : Scope) (name : List ℕ) (kind : Kind) → Stands stack before place → kind_here (innermost stack) name ≡ None
     → (q : List ℕ) → kind_in ((innermost stack ++ known name kind ∷ []) ∷ drop 1 stack) q ≡ declared_kind (before ++ declaration name kind place ∷ []) place q
@@ -104,13 +97,13 @@ own_declared stack before place name kind h q =
         ∙ or_some (kind_here (innermost stack) q) kind
         ∙ sym (ap (λ b. list_any (λ d. same q d.name && same place d.scope) before || ((b && same place place) || false)) t
         ∙ ap (λ b. list_any (λ d. same q d.name && same place d.scope) before || (b || false)) (same_refl place)
-        ∙ or_true (list_any (λ d. same q d.name && same place d.scope) before))
+        ∙ or-true (list_any (λ d. same q d.name && same place d.scope) before))
     by false t =
         ap (λ b. is_some (option_or (kind_here (innermost stack) q) (cond b (Some kind) None))) t
         ∙ ap is_some (or_none (kind_here (innermost stack) q))
         ∙ h.own q
         ∙ sym (ap (λ b. list_any (λ d. same q d.name && same place d.scope) before || ((b && same place place) || false)) t
-        ∙ or_false (list_any (λ d. same q d.name && same place d.scope) before))
+        ∙ or-false (list_any (λ d. same q d.name && same place d.scope) before))
 
 -- what the answer of a declaration says
 pub record Declares (after stack : Stack) (before : List Declaration) (place : Scope) (name : Name) (kind : Kind) : Type 0 where

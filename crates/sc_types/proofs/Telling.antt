@@ -130,7 +130,8 @@ tells_int ks e = tells_int_by ks e (sort_of ks e) (tells_node ks e.place e.node)
 
 -- ---- chains as lists
 
-bind_same : (r : Result NumSort TypeFault) (f g : NumSort → Result NumSort TypeFault) → ((a : NumSort) → f a ≡ g a) → (r >>= f) ≡ (r >>= g)
+-- what goes on alike from each answer
+pub bind_same : {A B : Type 0} (r : Result A TypeFault) (f g : A → Result B TypeFault) → ((a : A) → f a ≡ g a) → (r >>= f) ≡ (r >>= g)
 bind_same (Ok a) f g h = h a
 bind_same (Err e) f g h = refl
 

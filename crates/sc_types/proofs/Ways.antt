@@ -1,5 +1,6 @@
 -- Ways of scopes: which begins which.
 use Rattle.std.proofs.Common.{◌≡◌, ℕ, ◌<◌, Bool, true, false, ◌&&◌, List, [], ◌∷◌, ◌++◌, nat_eq, refl, sym, ap, subst, ◌∙◌, eq-eqb, eqb-true, arith}
+use Rattle.std.proofs.Math.Bool.{and-false}
 use Rattle.sc_base.specs.Texts.{same}
 use Rattle.sc_types.specs.Declarations.{is_prefix}
 
@@ -13,10 +14,6 @@ same_refl (x ∷ xs) = ap (λ b. b && same xs xs) (eq_refl x) ∙ same_refl xs
 pub prefix_refl : (a : List ℕ) → is_prefix a a ≡ true
 prefix_refl [] = refl
 prefix_refl (x ∷ xs) = ap (λ b. b && is_prefix xs xs) (eq_refl x) ∙ prefix_refl xs
-
-and_false : (b : Bool) → (b && false) ≡ false
-and_false true = refl
-and_false false = refl
 
 and_left : (a b : Bool) → (a && b) ≡ true → a ≡ true
 and_left true b e = refl
@@ -92,7 +89,7 @@ other_way [] (x ∷ a) i j e h =
     ap (λ b. b && is_prefix a []) (subst (λ (n : ℕ). nat_eq n j ≡ false) s (eq_swap j i (apart i j h)))
 other_way (s ∷ way) [] i j e h = cc
 other_way (s ∷ way) (x ∷ a) i j e h =
-    ap (λ b. nat_eq x s && b) (other_way way a i j (and_right (nat_eq s x) (is_prefix (way ++ i ∷ []) a) e) h) ∙ and_false (nat_eq x s)
+    ap (λ b. nat_eq x s && b) (other_way way a i j (and_right (nat_eq s x) (is_prefix (way ++ i ∷ []) a) e) h) ∙ and-false (nat_eq x s)
 
 pub same_longer : (a b : List ℕ) → is_prefix a b ≡ false → same a b ≡ false
 same_longer [] b e = cc
@@ -109,19 +106,19 @@ not_seen [] [] i e = cc
 not_seen [] (x ∷ a) i e = refl
 not_seen (s ∷ place) [] i e = cc
 not_seen (s ∷ place) (x ∷ a) i e =
-    ap (λ b. nat_eq x s && b) (not_seen place a i (and_right (nat_eq s x) (is_prefix (place ++ i ∷ []) a) e)) ∙ and_false (nat_eq x s)
+    ap (λ b. nat_eq x s && b) (not_seen place a i (and_right (nat_eq s x) (is_prefix (place ++ i ∷ []) a) e)) ∙ and-false (nat_eq x s)
 
 pub not_same : (place a : List ℕ) (i : ℕ) → is_prefix (place ++ i ∷ []) a ≡ true → same place a ≡ false
 not_same [] [] i e = cc
 not_same [] (x ∷ a) i e = refl
 not_same (s ∷ place) [] i e = cc
 not_same (s ∷ place) (x ∷ a) i e =
-    ap (λ b. nat_eq s x && b) (not_same place a i (and_right (nat_eq s x) (is_prefix (place ++ i ∷ []) a) e)) ∙ and_false (nat_eq s x)
+    ap (λ b. nat_eq s x && b) (not_same place a i (and_right (nat_eq s x) (is_prefix (place ++ i ∷ []) a) e)) ∙ and-false (nat_eq s x)
 
 -- a later number begins neither the place nor what begins with an earlier number
 pub later_place : (place : List ℕ) (i : ℕ) → is_prefix (place ++ i ∷ []) place ≡ false
 later_place [] i = refl
-later_place (s ∷ place) i = ap (λ b. nat_eq s s && b) (later_place place i) ∙ and_false (nat_eq s s)
+later_place (s ∷ place) i = ap (λ b. nat_eq s s && b) (later_place place i) ∙ and-false (nat_eq s s)
 
 pub later_way : (place a : List ℕ) (i j : ℕ) → is_prefix (place ++ i ∷ []) a ≡ true → i < j → is_prefix (place ++ j ∷ []) a ≡ false
 later_way [] [] i j e h = cc
@@ -130,4 +127,4 @@ later_way [] (x ∷ a) i j e h =
     ap (λ b. b && true) (subst (λ (n : ℕ). nat_eq j n ≡ false) s (apart i j h))
 later_way (s ∷ place) [] i j e h = cc
 later_way (s ∷ place) (x ∷ a) i j e h =
-    ap (λ b. nat_eq s x && b) (later_way place a i j (and_right (nat_eq s x) (is_prefix (place ++ i ∷ []) a) e) h) ∙ and_false (nat_eq s x)
+    ap (λ b. nat_eq s x && b) (later_way place a i j (and_right (nat_eq s x) (is_prefix (place ++ i ∷ []) a) e) h) ∙ and-false (nat_eq s x)
