@@ -1,9 +1,9 @@
 -- The gates next to each gate on its wires, and which gates are ready.
-use Rattle.std.proofs.Common.{◌≡◌, ◌≢◌, ℕ, zero, suc, ◌+◌, ◌-◌, ◌<◌, ◌≤◌, Bool, true, false, Option, Some, None, List, [], ◌∷◌, ◌++◌, length, refl, sym, ap, ◌∙◌, arith, inl, inr, ◌&&◌, ◌||◌, not, get_or, ◌⊎◌, add-one}
-use Rattle.std.specs.Prelude.{◌==◌, slice_get, slice_index_or, slice_set, if◌then◌else◌, option_to_list}
+use Rattle.std.proofs.Common.{◌≡◌, ◌≢◌, ℕ, zero, suc, ◌+◌, ◌-◌, ◌<◌, ◌≤◌, Bool, true, false, Option, Some, None, List, [], ◌∷◌, ◌++◌, length, refl, sym, ap, ◌∙◌, arith, inl, inr, ◌&&◌, get_or, ◌⊎◌, add-one}
+use Rattle.std.specs.Prelude.{slice_get, slice_set, if◌then◌else◌, option_to_list}
 use Rattle.std.proofs.lemmas.Bool.{false≢true, cases_Bool, cases_lt, cases_eq, eqb-true, eq-eqb}
-use Rattle.std.proofs.lemmas.List.{get_or-set_same, get_or-set_other, get_or_append_left, get_or-append_right, length-append}
-use Rattle.std.proofs.lemmas.Option.{slice_get-get_or, get_or_from_slice_get}
+use Rattle.std.proofs.lemmas.List.{get_or-set_same, get_or-set_other, get_or_append_left, get_or-append_right}
+use Rattle.std.proofs.lemmas.Option.{slice_get-get_or}
 use Rattle.sc_sched.proofs.Free.{fun_same}
 use Rattle.sc_gate.specs.declared.gate.Wire.{Wire}
 use Rattle.sc_gate.specs.declared.gate.Gate.{Gate}
@@ -11,10 +11,10 @@ use Rattle.sc_gate.specs.Gates.{operands}
 use Rattle.sc_gate.specs.Wires.{member}
 use Rattle.sc_gate.proofs.WireLemmas.{member_here, member_later, member_cases}
 use Rattle.sc_sched.specs.declared.neighbours.Neighbours.{Neighbours}
-use Rattle.sc_sched.specs.Gates.{has_wire, last_on, shares}
-use Rattle.sc_sched.specs.Neighbours.{on_wire, numbers_by, none_or, each, is_number, holds, neighbours_at, AreLast, AreNext}
-use Rattle.sc_sched.proofs.Count.{and_left, and_right, both, either, or_left, or_right, same_truth, lt_cases}
-use Rattle.sc_sched.proofs.LastOn.{has_at, LastOn, last_is, LastFrom, last_from, SharedWire, shared_wire, shares_by}
+use Rattle.sc_sched.specs.Gates.{has_wire, last_on}
+use Rattle.sc_sched.specs.Neighbours.{on_wire, numbers_by, none_or, each, is_number, holds, neighbours_at, AreNext}
+use Rattle.sc_sched.proofs.Count.{and_left, and_right, both, either, or_left, or_right}
+use Rattle.sc_sched.proofs.LastOn.{has_at, LastOn, last_is}
 
 -- the table has the first gate at x or after it on each wire
 pub record IsFirst (gates : List Gate) (x : ℕ) (first : Wire → Option ℕ) : Type 0 where

@@ -1,7 +1,7 @@
 -- Trees of nodes: a leaf changes, and the first leaf that is set is found.
-use Rattle.std.proofs.Common.{◌≡◌, ◌≢◌, ℕ, zero, suc, ◌+◌, ◌-◌, ◌*◌, ◌/◌, ◌%◌, ◌<◌, ◌≤◌, Bool, true, false, List, length, take, drop, refl, sym, ap, ◌∙◌, arith, inl, inr, ◌||◌, ◌⊎◌}
-use Rattle.std.specs.Prelude.{slice_index_or, slice_set, replicate, min}
-use Rattle.std.proofs.lemmas.Bool.{false≢true, cases_Bool, cases_lt, cases_eq}
+use Rattle.std.proofs.Common.{◌≡◌, ◌≢◌, ℕ, zero, suc, ◌+◌, ◌-◌, ◌*◌, ◌/◌, ◌%◌, ◌<◌, ◌≤◌, Bool, true, false, List, length, drop, refl, sym, ap, ◌∙◌, arith, inl, inr, ◌||◌, ◌⊎◌}
+use Rattle.std.specs.Prelude.{slice_index_or, slice_set, replicate}
+use Rattle.std.proofs.lemmas.Bool.{false≢true, cases_lt, cases_eq}
 use Rattle.std.proofs.lemmas.List.{get_or-set_same, get_or-set_other, length-set, get_or-take, get_or-drop, length-take-le, length-drop, ext_get_or, get_or-replicate, length-replicate}
 use Rattle.sc_sched.specs.NumberTree.{node, IsTree, IsClosed, numbers}
 

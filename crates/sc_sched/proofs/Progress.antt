@@ -1,16 +1,12 @@
 -- Steps follow one another until each gate is placed.
-use Rattle.std.proofs.Common.{◌≡◌, ℕ, zero, suc, ◌+◌, ◌<◌, ◌≤◌, Bool, true, false, cond, Option, Some, None, List, [], ◌∷◌, ◌++◌, length, refl, sym, ap, ◌∙◌, subst, arith, inl, inr, ◌&&◌, ◌||◌, not, ◌⊎◌, append-nil, append_assoc}
-use Rattle.std.specs.Prelude.{◌==◌, slice_get, slice_index}
+use Rattle.std.proofs.Common.{◌≡◌, ℕ, zero, suc, ◌+◌, ◌<◌, ◌≤◌, Bool, true, false, cond, Some, List, [], ◌∷◌, ◌++◌, length, refl, sym, ap, ◌∙◌, subst, arith, inl, inr, ◌&&◌, ◌||◌, not, ◌⊎◌}
+use Rattle.std.specs.Prelude.{◌==◌, slice_get}
 use Rattle.std.specs.Prelude.{All, flat_map}
 use Rattle.std.specs.List.{list_any, filter}
 use Rattle.std.proofs.lemmas.List.Elements.{All-weaker}
 use Rattle.std.proofs.lemmas.Bool.{false≢true, cases_Bool, cases_lt, eqb-true, eq-eqb}
 use Rattle.std.proofs.lemmas.List.Folds.{list_any-append}
-use Rattle.std.proofs.lemmas.Option.{slice_get-get_or}
-use Rattle.sc_gate.specs.declared.gate.Wire.{Wire}
 use Rattle.sc_gate.specs.declared.gate.Gate.{Gate}
-use Rattle.sc_gate.specs.Gates.{operands}
-use Rattle.sc_gate.specs.Wires.{member}
 use Rattle.sc_sched.specs.declared.neighbours.Neighbours.{Neighbours}
 use Rattle.sc_sched.specs.Gates.{last_on, shares}
 use Rattle.sc_sched.specs.Step.{count_below, Shop, IsShop, IsStep, fits, beside}
@@ -29,7 +25,7 @@ use Rattle.sc_sched.proofs.Build.{Follows, no_split, first_of, rest_of, some_rea
 use Rattle.sc_sched.proofs.Lawful.{FirstIn, first_in, shop_of_gates_is}
 use Rattle.sc_sched.proofs.LaidSteps.{AreAlike, laid_shop, laid_alike, laid_step}
 use Rattle.sc_sched.proofs.RegionLemmas.{positions_below, all_filter}
-use Rattle.sc_sched.proofs.LastOn.{has_at, LastOn, last_is, LastFrom, last_from, SharedWire, shared_wire, shares_by}
+use Rattle.sc_sched.proofs.LastOn.{LastOn, last_is, LastFrom, last_from, SharedWire, shared_wire, shares_by}
 use Rattle.sc_sched.proofs.NextGates.{each_all, each_at, Fails, each_fails, has_here}
 
 -- each step so far is the one that follows

@@ -1,5 +1,5 @@
 -- Which gates are ready, by the gates that are placed.
-use Rattle.std.specs.Prelude.{ℕ, ◌&&◌, not, Bool, false, List, slice_index_or}
+use Rattle.std.specs.Prelude.{ℕ, ◌&&◌, not, Bool, false, slice_index_or}
 use Rattle.sc_sched.specs.declared.waiting.Waiting.{Waiting}
 use Rattle.sc_sched.specs.Neighbours.{each, neighbours_at}
 

@@ -9,7 +9,7 @@ use Rattle.sc_top.specs.Lexemes.{Part, part_lexemes, lexemes, ending}
 use Rattle.sc_top.proofs.BodyLemmas.{Body, body_less, first_body, ending_no_part}
 use Rattle.sc_top.proofs.SameTokens.{same_tokens}
 
-same_made : {a b : Made} → Some a ≡ Some b → a ≡ b
+pub same_made : {a b : Made} → Some a ≡ Some b → a ≡ b
 same_made {a} {b} is = cc
 
 -- lexemes that are an ending make nothing more

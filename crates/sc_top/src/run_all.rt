@@ -140,10 +140,11 @@ fn tell<E: Sink>(err: &mut E, line: &[u8])
 ///
 /// `flat FILE` writes the flat text of the source under FILE to `out`, and ends it. The refusals, in this order:
 /// `Usage` where the words are anything else; `ReadFailed` where the shelf fails; `Limit` where the source has more
-/// than 16,777,216 bytes; `Refused` or `Limit` where its tokens have a fault, the first one, or else where they leave
-/// the grammar, or else where its names and kinds have one; `Refused` where it is not of the first form. `Memory` comes where no memory is found, before the first
-/// byte of output. After a refusal `out` is unchanged. After `WriteFailed`, where the sink fails, `out` has a prefix of
-/// the text and is not ended. A refusal writes one line to `err` and ends it.
+/// than 16,777,216 bytes; `Refused` or `Limit` where its tokens have a fault, or else where they leave the grammar,
+/// or else where its names and kinds have a fault, the first one each time; `Refused` where it is not of the first
+/// form. `Memory` comes where no memory is found, before the first byte of output. After a refusal `out` is
+/// unchanged. After `WriteFailed`, where the sink fails, `out` has a prefix of the text and is not ended. A refusal
+/// writes one line to `err` and ends it.
 pub fn run<F: Shelf, O: Sink, E: Sink>(
     alloc: Global,
     words: &[RcStr],

@@ -1,6 +1,4 @@
-use Rattle.std.proofs.Common.{◌≡◌, ℕ, ◌+◌, ◌<◌, length, refl, sym, ap, ◌∙◌, arith, rules}
-use Rattle.std.proofs.lemmas.Option.{slice_get-get_or}
-use Rattle.sc_gate.specs.declared.gate.Gate.{Gate}
+use Rattle.std.proofs.Common.{◌≡◌, ◌<◌, length, ◌∙◌, arith, rules}
 use Rattle.sc_sched.specs.WireTables.{number_at}
 use Rattle.sc_sched.proofs.NextGates.{last_more, last_pushed, get_below}
 use Rattle.sc_sched.proofs.neighbours.last_gates.Goals as goal

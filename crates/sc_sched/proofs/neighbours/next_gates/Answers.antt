@@ -1,9 +1,8 @@
-use Rattle.std.proofs.Common.{◌≡◌, ℕ, suc, ◌+◌, ◌-◌, ◌<◌, ◌≤◌, length, refl, sym, ap, ◌∙◌, arith, rules}
+use Rattle.std.proofs.Common.{◌≡◌, ℕ, suc, ◌-◌, ◌<◌, length, ◌∙◌, arith}
 use Rattle.std.proofs.lemmas.Option.{slice_get-get_or}
 use Rattle.std.proofs.lemmas.List.{length-set}
-use Rattle.sc_gate.specs.declared.gate.Gate.{Gate}
 use Rattle.sc_sched.specs.WireTables.{number_at}
-use Rattle.sc_sched.proofs.NextGates.{IsFirst, IsNext, first_more, next_more, next_done}
+use Rattle.sc_sched.proofs.NextGates.{first_more, next_more, next_done}
 use Rattle.sc_sched.proofs.neighbours.next_gates.Goals as goal
 
 pub loop-x-preserved : goal.loop-x-preserved

@@ -1,4 +1,4 @@
-use Rattle.std.proofs.Common.{◌≡◌, ℕ, Bool, false, ◌<◌, ◌≤◌, List, ◌∷◌, ◌++◌, [], length, not, ◌&&◌, ◌||◌, true, refl, sym, ap, ◌∙◌, subst, arith, rules, inl, inr}
+use Rattle.std.proofs.Common.{◌≡◌, ℕ, Bool, false, ◌<◌, List, ◌∷◌, ◌++◌, [], length, not, ◌&&◌, ◌||◌, true, sym, ap, ◌∙◌, subst, arith, rules, inl, inr}
 use Rattle.sc_sched.specs.Layout.{Layout}
 use Rattle.sc_sched.specs.Board.{layout_of, waits}
 use Rattle.sc_sched.specs.Laid.{IsLaid}

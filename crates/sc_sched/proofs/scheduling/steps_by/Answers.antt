@@ -1,4 +1,4 @@
-use Rattle.std.proofs.Common.{◌≡◌, ℕ, Bool, ◌<◌, List, length, subst}
+use Rattle.std.proofs.Common.{ℕ, Bool, ◌<◌, List, length, subst}
 use Rattle.sc_gate.specs.declared.gate.Gate.{Gate}
 use Rattle.sc_sched.specs.declared.order.Rank.{Rank}
 use Rattle.sc_sched.specs.Board.{layout_of}

@@ -1,7 +1,7 @@
-use Rattle.std.proofs.Common.{◌≡◌, ℕ, ◌+◌, ◌*◌, ◌≤◌, ◌/◌, ◌-◌, true, false, length, subst, sym, ◌∙◌, ap, arith, rules, List, Bool}
+use Rattle.std.proofs.Common.{◌≡◌, ℕ, ◌+◌, ◌*◌, ◌-◌, true, false, length, ◌∙◌, ap, rules, List, Bool}
 use Rattle.std.specs.Prelude.{replicate, slice_set}
 use Rattle.std.proofs.lemmas.List.{length-replicate}
-use Rattle.sc_sched.specs.NumberTree.{node, IsTree, numbers}
+use Rattle.sc_sched.specs.NumberTree.{node}
 use Rattle.sc_sched.proofs.NumberTrees.{none_numbers}
 use Rattle.sc_sched.proofs.numbers.NumberSet.new.Goals as goal
 

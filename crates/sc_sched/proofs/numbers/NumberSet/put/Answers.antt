@@ -1,6 +1,6 @@
-use Rattle.std.proofs.Common.{◌≡◌, ℕ, ◌+◌, ◌<◌, ◌≤◌, ◌/◌, length, subst, sym, ◌∙◌, ap, arith, rules, List, Bool}
+use Rattle.std.proofs.Common.{◌≡◌, ℕ, ◌+◌, ◌<◌, ◌/◌, length, ◌∙◌, ap, rules, List, Bool}
 use Rattle.std.specs.Prelude.{slice_set}
-use Rattle.sc_sched.specs.NumberTree.{node, IsTree, IsClosed, numbers}
+use Rattle.sc_sched.specs.NumberTree.{node, IsClosed, numbers}
 use Rattle.sc_sched.proofs.NumberTrees.{numbers_put}
 use Rattle.sc_sched.proofs.numbers.NumberSet.put.Goals as goal
 

@@ -1,4 +1,4 @@
-use Rattle.std.proofs.Common.{◌≡◌, ℕ, ◌<◌, ◌≤◌, ◌∷◌, ◌++◌, [], List, length, slice_index, refl, sym, ap, ◌∙◌, arith, rules}
+use Rattle.std.proofs.Common.{◌≡◌, ◌<◌, ◌∷◌, ◌++◌, [], length, ◌∙◌, rules}
 use Rattle.std.proofs.lemmas.List.{length-set}
 use Rattle.sc_sched.proofs.Open.{Listed, listed_less, none_listed}
 use Rattle.sc_sched.proofs.tray.Tray.clear.Goals as goal

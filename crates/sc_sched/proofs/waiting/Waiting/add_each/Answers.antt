@@ -1,6 +1,6 @@
-use Rattle.std.proofs.Common.{◌≡◌, ℕ, ◌<◌, List, length, sym, ap, ◌∙◌, true}
+use Rattle.std.proofs.Common.{◌≡◌, length, ap, ◌∙◌}
 use Rattle.sc_sched.specs.Layout.{Layout}
-use Rattle.sc_sched.specs.Board.{layout_of, waits}
+use Rattle.sc_sched.specs.Board.{waits}
 use Rattle.sc_sched.specs.Neighbours.{is_number}
 use Rattle.sc_sched.specs.Waiting.{is_ready}
 use Rattle.sc_sched.proofs.Count.{or_left, or_right}

@@ -1,9 +1,9 @@
-use Rattle.std.proofs.Common.{◌≡◌, ℕ, ◌<◌, ◌≤◌, List, length, take, refl, sym, ap, ◌∙◌, true, ◌||◌, ◌&&◌, arith, rules}
+use Rattle.std.proofs.Common.{◌≡◌, ℕ, ◌<◌, List, length, ap, ◌∙◌, true, ◌||◌, ◌&&◌, rules}
 use Rattle.std.specs.Prelude.{slice_index}
 use Rattle.std.specs.List.{list_any}
 use Rattle.std.proofs.lemmas.List.{take_all, get_or_default}
 use Rattle.sc_sched.specs.Layout.{Layout}
-use Rattle.sc_sched.specs.Board.{layout_of, waits}
+use Rattle.sc_sched.specs.Board.{waits}
 use Rattle.sc_sched.specs.Neighbours.{holds, neighbours_at}
 use Rattle.sc_sched.specs.Waiting.{is_ready}
 use Rattle.sc_sched.specs.declared.neighbours.Neighbours.{Neighbours}
