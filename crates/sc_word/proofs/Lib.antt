@@ -7,3 +7,4 @@ pub mod Naming
 pub mod Operating
 pub mod TypedRows
 pub mod Valuing
+mod Worked
