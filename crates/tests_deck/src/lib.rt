@@ -1,0 +1,2 @@
+//! Tests of decks and what stands on them, schedules and their checker.
+#![tactic(auto)]

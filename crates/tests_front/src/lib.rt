@@ -1,0 +1,2 @@
+//! Tests of the parser, classical functions, types and values.
+#![tactic(auto)]

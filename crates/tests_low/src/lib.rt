@@ -1,0 +1,2 @@
+//! Tests of the lists, sinks, gates, tables and tokens below everything.
+#![tactic(auto)]
