@@ -7,7 +7,7 @@ use Rattle.sc_syntax.specs.declared.piece.PieceKind.{PieceKind}
 use Rattle.sc_syntax.specs.declared.piece.PieceKind.TheVariants.{Space, LineComment, BlockComment, OpenComment, Directive, Word, Number, Sign}
 use Rattle.sc_syntax.specs.declared.token.Token.{Token}
 use Rattle.sc_syntax.specs.Directives.{Names, no_names, IsScanned, Directs, names_behind, placed}
-use Rattle.sc_syntax.specs.Lexing.{place_after, fault_of, Gives, Reads, at_end, after_piece, at_too_many, at_fault, at_stuck}
+use Rattle.sc_syntax.specs.Lexing.{place_after, fault_of, Gives, Reads, at_end, after_piece, at_too_many, at_fault, at_stuck, HasOneOutcome}
 use Rattle.sc_syntax.specs.Spaces.{begins_line}
 use Rattle.sc_syntax.proofs.CutLemmas.{SameCut, same_cut}
 use Rattle.sc_syntax.proofs.PieceKinds.{some_byte}
@@ -100,6 +100,9 @@ once source _ _ _ _ _ _ (at_stuck _ _ _ _ l s) (after_piece _ _ _ _ _ k p r new 
 once source _ _ _ _ _ _ (at_stuck _ _ _ _ l s) (at_too_many _ _ _ _ k p r new after e n g _) = absurd (s k p r n.is_piece e)
 once source _ _ _ _ _ _ (at_stuck _ _ _ _ l s) (at_fault _ _ _ _ k p r e n none) = absurd (s k p r n.is_piece e)
 once source _ _ _ _ _ _ (at_stuck _ _ _ _ _ _) (at_stuck _ _ _ _ _ _) = refl
+
+pub one_outcome : HasOneOutcome
+one_outcome source a b h k = once source [] no_names [] source a b h k
 
 -- a source with a fault has no tokens
 pub no_tokens : (source : List ℕ) (fault : LexFault) (ts : List Token) → Reads source [] no_names [] source (Err fault) → Reads source [] no_names [] source (Ok ts) → ⊥

@@ -96,8 +96,8 @@ fits_word fresh text sort.Name p h = record { word = p; free = h }
 fits_word fresh text _ p h = absurd h
 
 fits_number : (text : List ℕ) (s : TokenSort) → IsNumberSort text s → FitsText s text
-fits_number text (sort.Int n) h = rw h.1 (omega (arith, ints))
-fits_number text (sort.Decimal d) h = rw h.3 (omega (arith, ints))
+fits_number text (sort.Int n) h = rw h.1 (omega (arith, ints), omega (arith, ints, h.0.1))
+fits_number text (sort.Decimal d) h = rw h.3 (omega (arith, ints), omega (arith, ints, h.2))
 fits_number text _ h = absurd h
 
 fits_mark : (text : List ℕ) (s : TokenSort) → IsMarkSort text s → FitsText s text

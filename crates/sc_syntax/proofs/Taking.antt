@@ -134,7 +134,7 @@ refuses source found names tokens (Read sort) unread fault s g r u f =
 
 -- ---- defined names
 
-placed_read : (source : List ℕ) (place : Place) (token : Token) → IsRead source token → IsRead source (placed place token)
+pub placed_read : (source : List ℕ) (place : Place) (token : Token) → IsRead source token → IsRead source (placed place token)
 placed_read source place token h = record { ordered = h.ordered; within = h.within; fits = h.fits }
 
 pub value_read : (source : List ℕ) (place : Place) (tokens value more : List Token) → AreRead source tokens → All (IsRead source) value → more ≡ tokens ++ map (placed place) value → length more ≤ most_tokens

@@ -1,5 +1,5 @@
 -- Trees that are alike: one tree, wherever its boxes and lists lie in memory. Addresses say nothing of a source.
-use Rattle.std.specs.Prelude.{◌≡◌, ℕ, ℤ, List, map, Option, option_map}
+use Rattle.std.specs.Prelude.{◌≡◌, ℕ, ℤ, List, [], ◌∷◌, map, Option, option_map}
 use Rattle.sc_base.specs.declared.Class.{Class}
 use Rattle.sc_base.specs.declared.Fixed.{Fixed}
 use Rattle.sc_base.specs.declared.GateName.{GateName}
@@ -11,6 +11,7 @@ use Rattle.sc_syntax.specs.declared.tree.NumSort.{NumSort}
 use Rattle.sc_syntax.specs.declared.tree.WordOp.{WordOp}
 use Rattle.sc_syntax.specs.declared.tree.Name.{Name}
 use Rattle.sc_syntax.specs.declared.tree.Expr.{Expr}
+use Rattle.sc_syntax.specs.declared.tree.Link.{Link}
 use Rattle.sc_syntax.specs.declared.tree.Node as node
 use Rattle.sc_syntax.specs.declared.tree.Node.{Node, Index', Paren', Unary', Chain', Pick', Row_of-Link, end_of-Link, more_of-Link}
 use Rattle.sc_syntax.specs.declared.tree.Stmt.{Stmt}
@@ -31,6 +32,7 @@ use Rattle.sc_syntax.specs.declared.tree.ShiftLink.{ShiftLink}
 use Rattle.sc_syntax.specs.declared.tree.WordParam.{WordParam}
 use Rattle.sc_syntax.specs.declared.tree.Bind.{Bind}
 use Rattle.sc_syntax.specs.declared.tree.WordExpr.{WordExpr}
+use Rattle.sc_syntax.specs.declared.tree.WordLink.{WordLink}
 use Rattle.sc_syntax.specs.declared.tree.WordNode as word
 use Rattle.sc_syntax.specs.declared.tree.WordNode.{WordNode, Not', Shift', Ext', Low', Row_of-WordLink, end_of-WordLink, more_of-WordLink}
 
@@ -70,6 +72,11 @@ abbrev mutual
   pub pure_links : {m : _} → Row_of-Link m → PureLinks
   pure_links end_of-Link = no_links
   pure_links (more_of-Link o at p n rest) = link o at p (pure_node n) (pure_links rest)
+
+-- the same of links in a list
+abbrev pub pure_link_list : List Link → PureLinks
+pure_link_list [] = no_links
+pure_link_list (l ∷ ls) = link l.op l.place l.right.place (pure_node l.right.node) (pure_link_list ls)
 
 abbrev pub pure_expr : Expr → PureExpr
 pure_expr e = record { place = e.place; node = pure_node e.node }
@@ -136,6 +143,11 @@ abbrev mutual
   pure_row end_of-Stmt = no_stmts
   pure_row (more_of-Stmt p a rest) = stmt p (pure_act a) (pure_row rest)
 
+-- the same of statements in a list
+abbrev pub pure_stmt_list : List Stmt → PureStmts
+pure_stmt_list [] = no_stmts
+pure_stmt_list (s ∷ ss) = stmt s.place (pure_act s.act) (pure_stmt_list ss)
+
 pub record PureStmt : Type 0 where
   pub place : Place
   pub act : PureAct
@@ -180,6 +192,11 @@ abbrev mutual
   pub pure_word_links : {m : _} → Row_of-WordLink m → PureWordLinks
   pure_word_links end_of-WordLink = PureWordLinks.no_links
   pure_word_links (more_of-WordLink o at p n rest) = PureWordLinks.link o at p (pure_word n) (pure_word_links rest)
+
+-- the same of links in a list
+abbrev pub pure_word_link_list : List WordLink → PureWordLinks
+pure_word_link_list [] = PureWordLinks.no_links
+pure_word_link_list (l ∷ ls) = PureWordLinks.link l.op l.place l.right.place (pure_word l.right.node) (pure_word_link_list ls)
 
 abbrev pub pure_word_expr : WordExpr → PureWordExpr
 pure_word_expr e = record { place = e.place; node = pure_word e.node }

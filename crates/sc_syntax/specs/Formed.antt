@@ -1,5 +1,5 @@
 -- Formed trees: what every tree keeps beside its type.
-use Rattle.std.specs.Prelude.{ℕ, suc, ◌≤◌, pos, ◌≤ℤ◌, List, [], ◌∷◌, length, Option, Some, None}
+use Rattle.std.specs.Prelude.{ℕ, suc, ◌≤◌, List, [], ◌∷◌, length, Option, Some, None}
 use Rattle.sc_base.specs.declared.GateName.{GateName}
 use Rattle.sc_base.specs.declared.GateName.TheVariants as gate
 use Rattle.sc_syntax.specs.declared.tree.BinOp.{BinOp}
@@ -25,6 +25,7 @@ use Rattle.sc_syntax.specs.declared.tree.Source.{Source}
 use Rattle.sc_syntax.specs.Levels.{level, IsOneLevel}
 use Rattle.sc_syntax.specs.Names.{IsName}
 use Rattle.sc_syntax.specs.FormedWords.{max_items, AreFormed, IsFormedWordFn}
+use Rattle.sc_syntax.specs.Written.{IsWritten}
 
 -- ---- expressions
 
@@ -33,11 +34,11 @@ abbrev pub operators : {m : _} → Row_of-Link m → List BinOp
 operators end_of-Link = []
 operators (more_of-Link op at place node rest) = op ∷ operators rest
 
--- numbers are not negative, names are names, and a chain holds one level of the grammar
+-- numbers are such that may be written, names are names, and a chain holds one level of the grammar
 abbrev mutual
   pub IsFormedNode : Node → Type 0
-  IsFormedNode (Int n) = pos 0 ≤ℤ n
-  IsFormedNode (Decimal d) = pos 0 ≤ℤ d.0
+  IsFormedNode (Int n) = IsWritten n
+  IsFormedNode (Decimal d) = IsWritten d.0
   IsFormedNode (Name t) = IsName t
   IsFormedNode (Index' t b p n) = IsName t × IsFormedNode n
   IsFormedNode (Paren' b p n) = IsFormedNode n
@@ -89,12 +90,20 @@ abbrev pub IsFormedCallee : Callee → Type 0
 IsFormedCallee (Gate g) = Unit {0}
 IsFormedCallee (Named t) = IsName t
 
--- what may start or advance a `for`
+-- what may advance a `for`: it sets a name, and declares none
 abbrev pub IsSetting : Act → Type 0
-IsSetting (Numbers s l) = Unit {0}
 IsSetting (Set s) = Unit {0}
 IsSetting (Measure m) = Unit {0}
 IsSetting _ = ⊥
+
+-- what may start a `for`
+abbrev pub IsStart : Act → Type 0
+IsStart (Numbers s l) = Unit {0}
+IsStart act = IsSetting act
+
+abbrev pub IsStartOption : Held-Act-If-2 → Type 0
+IsStartOption None' = Unit {0}
+IsStartOption (Some' b p act) = IsStart act
 
 abbrev pub IsSettingOption : Held-Act-If-2 → Type 0
 IsSettingOption None' = Unit {0}
@@ -113,9 +122,9 @@ abbrev mutual
   IsFormedAct (Call c) = IsFormedCallee c.callee × AreFormed IsFormedExpr c.args
   IsFormedAct (If' e b p act other) = IsFormedExpr e × IsFormedAct act × IsFormedActOption other
   IsFormedAct (While' e b p act) = IsFormedExpr e × IsFormedAct act
-  IsFormedAct (For' start test step b p act) =
-      IsSettingOption start × IsFormedActOption start × IsFormedOption test
-      × IsSettingOption step × IsFormedActOption step × IsFormedAct act
+  IsFormedAct (For' start test advance b p act) =
+      IsStartOption start × IsFormedActOption start × IsFormedOption test
+      × IsSettingOption advance × IsFormedActOption advance × IsFormedAct act
   IsFormedAct (Block' shape row) = (count_stmts row ≤ max_items) × AreFormedStmts row
   IsFormedAct Empty = Unit {0}
 

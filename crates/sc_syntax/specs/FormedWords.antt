@@ -1,5 +1,5 @@
 -- Formed classical functions.
-use Rattle.std.specs.Prelude.{ℕ, ◌≤◌, pos, ◌≤ℤ◌, List, [], ◌∷◌, length}
+use Rattle.std.specs.Prelude.{ℕ, ◌≤◌, List, [], ◌∷◌, length}
 use Rattle.std.specs.List.{All}
 use Rattle.sc_syntax.specs.declared.tree.WordOp.{WordOp}
 use Rattle.sc_syntax.specs.declared.tree.Width.{Width}
@@ -13,6 +13,7 @@ use Rattle.sc_syntax.specs.declared.tree.WordFn.{WordFn}
 use Rattle.sc_syntax.specs.Count.{count_fn_words}
 use Rattle.sc_syntax.specs.Levels.{word_level, IsOneLevel}
 use Rattle.sc_syntax.specs.Names.{IsName}
+use Rattle.sc_syntax.specs.Written.{IsWritten}
 
 -- the most items of a list, and the most word expressions of a classical function
 abbrev pub max_items : ℕ
@@ -24,7 +25,7 @@ pub record AreFormed {X : Type 0} (IsFormed : X → Type 0) (items : List X) : T
   pub each : All IsFormed items
 
 abbrev pub IsFormedWidth : Width → Type 0
-IsFormedWidth w = pos 0 ≤ℤ w.value
+IsFormedWidth w = IsWritten w.value
 
 abbrev pub IsFormedShift : ShiftLink → Type 0
 IsFormedShift l = IsFormedWidth l.by
@@ -34,10 +35,10 @@ abbrev pub word_operators : {m : _} → Row_of-WordLink m → List WordOp
 word_operators end_of-WordLink = []
 word_operators (more_of-WordLink op at place node rest) = op ∷ word_operators rest
 
--- numbers and widths are not negative, names are names, and a chain holds one level of the grammar
+-- numbers and widths are such that may be written, names are names, and a chain holds one level of the grammar
 abbrev mutual
   pub IsFormedWordNode : WordNode → Type 0
-  IsFormedWordNode (Int n) = pos 0 ≤ℤ n
+  IsFormedWordNode (Int n) = IsWritten n
   IsFormedWordNode (Name t) = IsName t
   IsFormedWordNode (Paren' b p n) = IsFormedWordNode n
   IsFormedWordNode (Not' b p n) = IsFormedWordNode n

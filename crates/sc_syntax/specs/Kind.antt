@@ -1,4 +1,5 @@
--- The kind of an expression: `int` or `double`, for a map of names to kinds.
+-- The kind of an expression: `int` or `double`, for a map of names to kinds. It is that of the tree without its
+-- addresses, so that alike expressions have one kind.
 use Rattle.std.specs.Prelude.{ℕ, ◌≡◌, List, Option, Some, None}
 use Rattle.sc_syntax.specs.declared.kind.Kind.{Kind}
 use Rattle.sc_syntax.specs.declared.kind.Kind.TheVariants.{Number}
@@ -9,7 +10,8 @@ use Rattle.sc_syntax.specs.declared.tree.UnOp.TheVariants as un
 use Rattle.sc_syntax.specs.declared.tree.NumSort.{NumSort}
 use Rattle.sc_syntax.specs.declared.tree.NumSort.TheVariants as num
 use Rattle.sc_syntax.specs.declared.tree.Expr.{Expr}
-use Rattle.sc_syntax.specs.declared.tree.Node.{Node, Int, Decimal, Name, Index', Paren', Unary', Chain', Pick', Row_of-Link, end_of-Link, more_of-Link}
+use Rattle.sc_syntax.specs.declared.tree.Node.{Node, Row_of-Link}
+use Rattle.sc_syntax.specs.Alike.{PureNode, PureLinks, no_links, link, pure_node, pure_links}
 
 -- what each known name stands for
 abbrev pub Kinds : Type 0
@@ -52,26 +54,32 @@ kind_of_unary _ a = a
 
 -- a chain groups from the left; the branches of `?:` are operands of each other
 abbrev mutual
-  pub kind_of_node : Kinds → Node → Option NumSort
-  kind_of_node kinds (Int n) = Some num.Int
-  kind_of_node kinds (Decimal d) = Some num.Double
-  kind_of_node kinds (Name t) = number_kind (kinds t)
-  kind_of_node kinds (Index' t b p n) = None
-  kind_of_node kinds (Paren' b p n) = kind_of_node kinds n
-  kind_of_node kinds (Unary' op b p n) = kind_of_node kinds n >>= λ a. Some (kind_of_unary op a)
-  kind_of_node kinds (Chain' b p n shape row) = kind_of_node kinds n >>= kind_of_row kinds row
-  kind_of_node kinds (Pick' b1 p1 n1 b2 p2 n2 b3 p3 n3) =
-      kind_of_node kinds n1 >>= λ test. kind_of_node kinds n2 >>= λ a. kind_of_node kinds n3 >>= λ b. Some (wider a b)
+  pub kind_of : Kinds → PureNode → Option NumSort
+  kind_of kinds (PureNode.int n) = Some num.Int
+  kind_of kinds (PureNode.decimal d) = Some num.Double
+  kind_of kinds (PureNode.name t) = number_kind (kinds t)
+  kind_of kinds (PureNode.index t p n) = None
+  kind_of kinds (PureNode.paren p n) = kind_of kinds n
+  kind_of kinds (PureNode.unary op p n) = kind_of kinds n >>= λ a. Some (kind_of_unary op a)
+  kind_of kinds (PureNode.chain p n links) = kind_of kinds n >>= kind_of_links kinds links
+  kind_of kinds (PureNode.pick p1 n1 p2 n2 p3 n3) =
+      kind_of kinds n1 >>= λ test. kind_of kinds n2 >>= λ a. kind_of kinds n3 >>= λ b. Some (wider a b)
 
   -- of a chain whose operands so far have a kind
-  pub kind_of_row : {m : _} → Kinds → Row_of-Link m → NumSort → Option NumSort
-  kind_of_row kinds end_of-Link a = Some a
-  kind_of_row kinds (more_of-Link op at p n rest) a =
-      kind_of_node kinds n >>= λ b. kind_of_operation op a b >>= kind_of_row kinds rest
+  pub kind_of_links : Kinds → PureLinks → NumSort → Option NumSort
+  kind_of_links kinds no_links a = Some a
+  kind_of_links kinds (link op at p n rest) a = kind_of kinds n >>= λ b. kind_of_operation op a b >>= kind_of_links kinds rest
+
+-- the same of trees
+abbrev pub kind_of_node : Kinds → Node → Option NumSort
+kind_of_node kinds n = kind_of kinds (pure_node n)
+
+abbrev pub kind_of_row : {m : _} → Kinds → Row_of-Link m → NumSort → Option NumSort
+kind_of_row kinds row a = kind_of_links kinds (pure_links row) a
 
 -- the kind of an expression, if it is well typed as a number
 abbrev pub kind_of_expr : Kinds → Expr → Option NumSort
-kind_of_expr kinds e = kind_of_node kinds e.node
+kind_of_expr kinds e = kind_of kinds (pure_node e.node)
 
 -- the expression is well typed as a number
 abbrev pub IsNumber : Kinds → Expr → Type 0

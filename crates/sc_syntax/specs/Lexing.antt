@@ -10,7 +10,7 @@ use Rattle.sc_syntax.specs.declared.token.Token.{Token}
 use Rattle.sc_syntax.specs.Directives.{Names, no_names, IsScanned, Directs, placed}
 use Rattle.sc_syntax.specs.Pieces.{IsNext, IsStuck}
 use Rattle.sc_syntax.specs.Spaces.{line_so_far, begins_line}
-use Rattle.sc_syntax.specs.TokenLists.{most_tokens}
+use Rattle.sc_syntax.specs.TokenLists.{most_tokens, AreRead}
 
 -- The place behind some bytes. Its line is one more than their line feeds, its column one more than the bytes
 -- behind the last line feed.
@@ -72,3 +72,7 @@ HasFault source fault = Reads source [] no_names [] source (Err fault)
 -- a source has one outcome at most: one list of tokens, or one fault
 abbrev pub HasOneOutcome : Type 0
 HasOneOutcome = (source : List ℕ) (a b : Result (List Token) LexFault) → Reads source [] no_names [] source a → Reads source [] no_names [] source b → a ≡ b
+
+-- the tokens of a source are read from it
+abbrev pub LexedAreRead : Type 0
+LexedAreRead = (source : List ℕ) (tokens : List Token) → IsLexed source tokens → AreRead source tokens

@@ -15,3 +15,4 @@ pub mod Reserved
 pub mod Rows
 pub mod Spaces
 pub mod TokenLists
+pub mod Written

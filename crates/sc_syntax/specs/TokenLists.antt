@@ -1,9 +1,10 @@
 -- Lists of tokens that were read from a source.
-use Rattle.std.specs.Prelude.{ℕ, ◌≤◌, ◌≤ℤ◌, pos, List, length, slice_range, All}
+use Rattle.std.specs.Prelude.{ℕ, ◌≤◌, List, length, slice_range, All}
 use Rattle.sc_syntax.specs.declared.token.Token.{Token}
 use Rattle.sc_syntax.specs.declared.token.TokenSort.{TokenSort}
 use Rattle.sc_syntax.specs.declared.token.TokenSort.TheVariants.{Word, Gate, Name, Int, Decimal, Mark}
 use Rattle.sc_syntax.specs.Names.{IsName}
+use Rattle.sc_syntax.specs.Written.{IsWritten}
 
 -- how many tokens a source may have
 abbrev pub most_tokens : ℕ
@@ -13,11 +14,11 @@ most_tokens = 4194304
 abbrev pub text_of : List ℕ → Token → List ℕ
 text_of source token = slice_range source token.start token.end
 
--- a name was read from a name, and a number is at least 0
+-- a name was read from a name, and a number is one that may be written
 abbrev pub FitsText : TokenSort → List ℕ → Type 0
 FitsText Name text = IsName text
-FitsText (Int n) text = pos 0 ≤ℤ n
-FitsText (Decimal d) text = pos 0 ≤ℤ d.0
+FitsText (Int n) text = IsWritten n
+FitsText (Decimal d) text = IsWritten d.0
 FitsText (Word w) text = Unit {0}
 FitsText (Gate g) text = Unit {0}
 FitsText (Mark m) text = Unit {0}

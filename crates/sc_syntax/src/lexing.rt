@@ -144,13 +144,15 @@ fn take_piece<'a>(
 ///
 /// White space and comments are passed over. A directive `#define` gives a name tokens for which it stands; a later
 /// use of the name has the place of the use. Lines and columns count from 1, columns in bytes. The first fault in
-/// reading order is answered, or `Memory` where no memory is left.
+/// reading order is answered, or `Memory` where no memory is left: each refusal of `LexFault` says where it stands.
 pub fn lex(alloc: Global, source: &[u8]) -> Result<Tokens, LexFault>
     requires { length source.now ≤ 16_777_216 }
     ensures tokens { IfOk result (IsLexed source.now) }
     ensures read { IfOk result (AreRead source.now) }
     ensures fault { IfErr result (λ f. f ≢ LexFault.Memory → HasFault source.now f) }
     ensures none { IfErr result (λ f. f ≢ LexFault.Memory → (tokens : List OneToken) → IsLexed source.now tokens → ⊥) }
+    // A source has one outcome at most, so this is it.
+    ensures one { HasOneOutcome }
 {
     let mut tokens = Tokens::new(alloc);
     let mut names = Defined::new(alloc);
@@ -173,8 +175,3 @@ pub fn lex(alloc: Global, source: &[u8]) -> Result<Tokens, LexFault>
     }
     Ok(tokens)
 }
-
-/// A source has one outcome at most.
-pub(crate) fn one_outcome()
-    ensures { HasOneOutcome }
-{}

@@ -6,11 +6,10 @@ mod bytes;
 mod define;
 mod fault;
 mod kind;
+pub mod laws;
 mod lexing;
 mod piece;
 mod reading;
-#[cfg(test)]
-mod tests;
 mod token;
 mod tree;
 

@@ -79,8 +79,8 @@ pub enum Act {
     If(Expr, Box<Stmt>, Option<Box<Stmt>>),
     /// The condition and the body.
     While(Expr, Box<Stmt>),
-    /// The start, the condition, the advance and the body. Start and advance are `Numbers`, `Set` or
-    /// `Measure` statements.
+    /// The start, the condition, the advance and the body. The start is a `Numbers`, `Set` or `Measure`
+    /// statement, and the advance a `Set` or `Measure` statement.
     For(Option<Box<Stmt>>, Option<Expr>, Option<Box<Stmt>>, Box<Stmt>),
     Block(Vec<Stmt>),
     /// A lone `;`.

@@ -4,7 +4,7 @@ use Rattle.std.proofs.lemmas.Result.{err_from_is_err_and}
 use Rattle.sc_syntax.specs.Lexing.{place_after}
 use Rattle.sc_syntax.specs.TokenLists.{IsRead}
 use Rattle.sc_syntax.proofs.CutLemmas.{ends_within}
-use Rattle.sc_syntax.proofs.Once.{no_tokens}
+use Rattle.sc_syntax.proofs.Once.{no_tokens, one_outcome}
 use Rattle.sc_syntax.proofs.Turns.{begins, turn, ends, stuck, refused, cut_here, stuck_here, found_stands, place_moves}
 use Rattle.sc_syntax.proofs.lexing.lex.Goals as goal
 
@@ -58,3 +58,12 @@ loop-at-preserved c =
 
 pub returns-clause-tokens : goal.returns-clause-tokens
 returns-clause-tokens c = ends _ _ _ _ c.loop-at.invariant.goes_on (omega arith)
+
+pub returns-clause-one : goal.returns-clause-one
+returns-clause-one c = one_outcome
+
+pub returns-in_default-clause-one : goal.returns-in_default-clause-one
+returns-in_default-clause-one c = one_outcome
+
+pub returns-in_err-take_piece-clause-one : goal.returns-in_err-take_piece-clause-one
+returns-in_err-take_piece-clause-one c = one_outcome
