@@ -10,16 +10,15 @@ use Rattle.sc_syntax.specs.declared.UnOp.TheVariants as un
 use Rattle.sc_syntax.specs.declared.NumSort.{NumSort}
 use Rattle.sc_syntax.specs.declared.NumSort.TheVariants as num
 use Rattle.sc_syntax.specs.declared.Kind.TheVariants.{Number}
-use Rattle.sc_syntax.specs.declared.Expr.{Expr}
-use Rattle.sc_syntax.specs.declared.Node.{Node, Int, Decimal, Name, Index', Paren', Unary', Chain', Pick', Row_of-Link, end_of-Link, more_of-Link}
+use Rattle.sc_syntax.specs.Alike.{PureNode, PureLinks, PureExpr, no_links, link}
 use Rattle.sc_syntax.specs.Kind as kind
-use Rattle.sc_syntax.specs.Kind.{Kinds, number_kind, wider, kind_of_expr, kind_of_node, kind_of_row, kind_of_operation, kind_of_unary}
+use Rattle.sc_syntax.specs.Kind.{Kinds, number_kind, wider, kind_of, kind_of_links, kind_of_operation, kind_of_unary}
 use Rattle.sc_value.specs.declared.Value.{Value}
 use Rattle.sc_value.specs.declared.Value.TheVariants as v
 use Rattle.sc_value.specs.declared.EvalFault.{EvalFault}
 use Rattle.sc_value.specs.declared.EvalFault.TheVariants.{Overflow}
 use Rattle.sc_value.specs.Numbers.{◌>>=◌, ranged, int, double, divided, shifted, floor_div, unit, on_ints, on_doubles, widened, apply, is_true, to_double, beside, unary}
-use Rattle.sc_value.specs.Expressions.{Values, sort_of, kinds_of, step, value_of_node, value_of_row, value_of_expr}
+use Rattle.sc_value.specs.Expressions.{Values, sort_of, kinds_of, step, value_of, value_of_links, value}
 
 -- the value, if there is one, is of this kind
 pub record Has (sort : NumSort) (r : Result Value EvalFault) : Type 0 where
@@ -152,45 +151,46 @@ name_has (Some a) sort e = record { has = some_same e }
 name_has None sort e = cc
 
 mutual
-  pub value_has : (values : Values) (at : Place) (n : Node) (sort : NumSort) → kind_of_node (kinds_of values) n ≡ Some sort → Has sort (value_of_node values at n)
-  value_has values at (Int n) sort e = record { has = some_same e }
-  value_has values at (Decimal d) sort e = record { has = some_same e }
-  value_has values at (Name t) sort e = name_has (values t) sort e
-  value_has values at (Index' t b p n) sort e = cc
-  value_has values at (Paren' b p n) sort e = value_has values p n sort e
-  value_has values at (Unary' op b p n) sort e =
-      let k = bound (kind_of_node (kinds_of values) n) (λ a. Some (kind_of_unary op a)) sort e in
-      leads (value_of_node values p n) (unary op at) k.here sort (value_has values p n k.here k.first)
+  pub value_has : (values : Values) (at : Place) (n : PureNode) (sort : NumSort) → kind_of (kinds_of values) n ≡ Some sort → Has sort (value_of values at n)
+  value_has values at (PureNode.int n) sort e = record { has = some_same e }
+  value_has values at (PureNode.decimal d) sort e = record { has = some_same e }
+  value_has values at (PureNode.name t) sort e = name_has (values t) sort e
+  value_has values at (PureNode.index t p n) sort e = cc
+  value_has values at (PureNode.paren p n) sort e = value_has values p n sort e
+  value_has values at (PureNode.unary op p n) sort e =
+      let k = bound (kind_of (kinds_of values) n) (λ a. Some (kind_of_unary op a)) sort e in
+      leads (value_of values p n) (unary op at) k.here sort (value_has values p n k.here k.first)
       (λ a same. subst (λ s. Has s (unary op at a)) (ap (kind_of_unary op) same ∙ some_same k.rest) (unary_has op at a))
-  value_has values at (Chain' b p n shape row) sort e =
-      let k = bound (kind_of_node (kinds_of values) n) (kind_of_row (kinds_of values) row) sort e in
-      leads (value_of_node values p n) (value_of_row values row) k.here sort (value_has values p n k.here k.first)
-      (λ a same. row_has values row a sort (ap (kind_of_row (kinds_of values) row) same ∙ k.rest))
-  value_has values at (Pick' b1 p1 n1 b2 p2 n2 b3 p3 n3) sort e =
+  value_has values at (PureNode.chain p n links) sort e =
+      let k = bound (kind_of (kinds_of values) n) (kind_of_links (kinds_of values) links) sort e in
+      leads (value_of values p n) (value_of_links values links) k.here sort (value_has values p n k.here k.first)
+      (λ a same. links_have values links a sort (ap (kind_of_links (kinds_of values) links) same ∙ k.rest))
+  value_has values at (PureNode.pick p1 n1 p2 n2 p3 n3) sort e =
       let kinds = kinds_of values in
-      let test = bound (kind_of_node kinds n1) (λ _. kind.◌>>=◌ (kind_of_node kinds n2) (λ a. kind.◌>>=◌ (kind_of_node kinds n3) (λ b. Some (wider a b)))) sort e in
-      let yes = bound (kind_of_node kinds n2) (λ a. kind.◌>>=◌ (kind_of_node kinds n3) (λ b. Some (wider a b))) sort test.rest in
-      let no = bound (kind_of_node kinds n3) (λ b. Some (wider yes.here b)) sort yes.rest in
-      leads (value_of_node values p1 n1) _ test.here sort (value_has values p1 n1 test.here test.first)
+      let test = bound (kind_of kinds n1) (λ _. kind.◌>>=◌ (kind_of kinds n2) (λ a. kind.◌>>=◌ (kind_of kinds n3) (λ b. Some (wider a b)))) sort e in
+      let yes = bound (kind_of kinds n2) (λ a. kind.◌>>=◌ (kind_of kinds n3) (λ b. Some (wider a b))) sort test.rest in
+      let no = bound (kind_of kinds n3) (λ b. Some (wider yes.here b)) sort yes.rest in
+      leads (value_of values p1 n1) _ test.here sort (value_has values p1 n1 test.here test.first)
       (λ t _. tested sort (is_true t) _ _
-      (leads (value_of_node values p2 n2) _ yes.here sort (value_has values p2 n2 yes.here yes.first)
-      (λ a same. subst (λ s. Has s (beside (kind_of_node kinds n3) p2 a)) (ap (λ s. wider s no.here) same ∙ some_same no.rest)
+      (leads (value_of values p2 n2) _ yes.here sort (value_has values p2 n2 yes.here yes.first)
+      (λ a same. subst (λ s. Has s (beside (kind_of kinds n3) p2 a)) (ap (λ s. wider s no.here) same ∙ some_same no.rest)
       (subst (λ o. Has (wider (sort_of a) no.here) (beside o p2 a)) (sym no.first) (beside_has no.here p2 a))))
-      (leads (value_of_node values p3 n3) _ no.here sort (value_has values p3 n3 no.here no.first)
-      (λ a same. subst (λ s. Has s (beside (kind_of_node kinds n2) p3 a)) (ap (λ s. wider s yes.here) same ∙ wider_swaps no.here yes.here ∙ some_same no.rest)
+      (leads (value_of values p3 n3) _ no.here sort (value_has values p3 n3 no.here no.first)
+      (λ a same. subst (λ s. Has s (beside (kind_of kinds n2) p3 a)) (ap (λ s. wider s yes.here) same ∙ wider_swaps no.here yes.here ∙ some_same no.rest)
       (subst (λ o. Has (wider (sort_of a) yes.here) (beside o p3 a)) (sym yes.first) (beside_has yes.here p3 a)))))
 
-  pub row_has : {m : _} (values : Values) (row : Row_of-Link m) (a : Value) (sort : NumSort) → kind_of_row (kinds_of values) row (sort_of a) ≡ Some sort → Has sort (value_of_row values row a)
-  row_has values end_of-Link a sort e = record { has = some_same e }
-  row_has values (more_of-Link op at p n rest) a sort e =
+  pub links_have : (values : Values) (links : PureLinks) (a : Value) (sort : NumSort) → kind_of_links (kinds_of values) links (sort_of a) ≡ Some sort
+      → Has sort (value_of_links values links a)
+  links_have values no_links a sort e = record { has = some_same e }
+  links_have values (link op at p n rest) a sort e =
       let kinds = kinds_of values in
-      let right = bound (kind_of_node kinds n) (λ b. kind.◌>>=◌ (kind_of_operation op (sort_of a) b) (kind_of_row kinds rest)) sort e in
-      let both = bound (kind_of_operation op (sort_of a) right.here) (kind_of_row kinds rest) sort right.rest in
-      leads (step op at a (value_of_node values p n)) (value_of_row values rest) both.here sort
-      (step_has op at a (value_of_node values p n) right.here both.here both.first (value_has values p n right.here right.first))
-      (λ x same. row_has values rest x sort (ap (kind_of_row kinds rest) same ∙ both.rest))
+      let right = bound (kind_of kinds n) (λ b. kind.◌>>=◌ (kind_of_operation op (sort_of a) b) (kind_of_links kinds rest)) sort e in
+      let both = bound (kind_of_operation op (sort_of a) right.here) (kind_of_links kinds rest) sort right.rest in
+      leads (step op at a (value_of values p n)) (value_of_links values rest) both.here sort
+      (step_has op at a (value_of values p n) right.here both.here both.first (value_has values p n right.here right.first))
+      (λ x same. links_have values rest x sort (ap (kind_of_links kinds rest) same ∙ both.rest))
 
 -- a value that there is has the kind of its expression
-pub value_of_kind : (values : Values) (e : Expr) (sort : NumSort) → kind_of_expr (kinds_of values) e ≡ Some sort
-    → IfOk (value_of_expr values e) (λ value. sort_of value ≡ sort)
+pub value_of_kind : (values : Values) (e : PureExpr) (sort : NumSort) → kind_of (kinds_of values) e.node ≡ Some sort
+    → IfOk (value values e) (λ value. sort_of value ≡ sort)
 value_of_kind values e sort is = (value_has values e.place e.node sort is).has

@@ -1,5 +1,6 @@
-mod ChainLemmas
+pub mod AgreementLaws
 mod EntryLemmas
 pub mod KindLaws
+pub mod RangeLaws
 pub mod ScopeLaws
 mod ScopeLemmas

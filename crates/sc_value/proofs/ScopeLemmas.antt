@@ -1,14 +1,13 @@
 -- Scopes as they are kept: the outermost apart, and the entered ones with the innermost last.
-use Rattle.std.proofs.Common.{◌≡◌, refl, sym, ap, ◌∙◌, ℕ, ◌+◌, ◌<◌, List, [], ◌∷◌, ◌++◌, length, get_or, take, drop, set, arith, add-one, append_assoc, true, cond, IsSome}
+use Rattle.std.proofs.Common.{◌≡◌, refl, sym, ap, ◌∙◌, ℕ, ◌+◌, ◌<◌, Bool, List, [], ◌∷◌, ◌++◌, length, get_or, take, drop, set, arith, add-one, append_assoc, true, false, cond}
 use Rattle.std.proofs.lemmas.List.{reverse-append, take-append-drop, take-set, drop-set, take_more, drop_all}
 use Rattle.std.proofs.Math.Seq.{drop-cons}
 use mathlib.Core.List.{reverse}
-use Rattle.std.specs.Prelude.{Option, Some, None, is_some}
-use Rattle.std.specs.Option.{option_or, option_map}
-use Rattle.std.specs.FinMap.{get, insert}
+use Rattle.std.specs.Prelude.{Option, Some, None, is_some, if◌then◌else◌}
+use Rattle.std.specs.Option.{option_or}
+use Rattle.std.specs.FinMap.{get, insert, contains_key}
 use Rattle.sc_value.specs.declared.Value.{Value}
-use Rattle.sc_value.specs.Expressions.{sort_of}
-use Rattle.sc_value.specs.Scopes.{Scope, Scopes, declared_value, with_declared, with_set, HasKind}
+use Rattle.sc_value.specs.Scopes.{Scope, Scopes, declared_value, with_declared, with_set}
 
 abbrev pub view : List Scope → Scope → Scopes
 view entered outermost = reverse entered ++ outermost ∷ []
@@ -107,21 +106,14 @@ set_here xs o i d name value within some =
     ∙ ap (λ there. reverse (drop (i + 1) xs) ++ cond there (insert here name value ∷ view (take i xs) o) (here ∷ with_set (view (take i xs) o) name value)) some
     ∙ sym (view_set xs o i (insert here name value) within)
 
+-- where no entered scope has the name, the outermost one has the new value, if it has the name
 pub set_outermost : (xs : List Scope) (o : Scope) (name : List ℕ) (value : Value)
-    → IsSome (get o name)
-    → reverse (drop 0 xs) ++ with_set (view (take 0 xs) o) name value ≡ view xs (insert o name value)
-set_outermost xs o name value some =
-    ap (λ none. reverse xs ++ with_set (none ++ o ∷ []) name value) reverse_none
-    ∙ ap (λ there. reverse xs ++ cond there (insert o name value ∷ []) (o ∷ [])) some
-
--- a declared name that no entered scope has stands in the outermost
-pub outermost_has : (scopes : Scopes) (xs : List Scope) (o : Scope) (name : List ℕ) (value : Value)
-    → HasKind scopes name value → declared_value scopes name ≡ declared_value (view (take 0 xs) o) name → IsSome (get o name)
-outermost_has scopes xs o name value kind same = has (get o name) (ap (option_map sort_of) (sym (same ∙ declared_outermost xs o name)) ∙ kind)
+    → reverse (drop 0 xs) ++ with_set (view (take 0 xs) o) name value ≡ view xs (if contains_key o name then insert o name value else o)
+set_outermost xs o name value = ap (λ none. reverse xs ++ with_set (none ++ o ∷ []) name value) reverse_none ∙ either (contains_key o name)
   where
-    has : (found : Option Value) → option_map sort_of found ≡ Some (sort_of value) → IsSome found
-    has None e = cc
-    has (Some v) e = refl
+    either : (b : Bool) → reverse xs ++ cond b (insert o name value ∷ []) (o ∷ []) ≡ view xs (cond b (insert o name value) o)
+    either true = refl
+    either false = refl
 
 -- ---- declaring a name
 

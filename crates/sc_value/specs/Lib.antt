@@ -1,4 +1,6 @@
+pub mod Agreement
 pub mod Entries
 pub mod Expressions
 pub mod Numbers
+pub mod Ranges
 pub mod Scopes

@@ -49,3 +49,7 @@ with_set (scope ∷ outer) name value =
 -- the name is declared, with a value of the same kind
 abbrev pub HasKind : Scopes → List ℕ → Value → Type 0
 HasKind scopes name value = option_map sort_of (declared_value scopes name) ≡ Some (sort_of value)
+
+-- a set to a value of the name's kind keeps the kind of every name
+abbrev pub SetsKeepKinds : Type 0
+SetsKeepKinds = (scopes : Scopes) (name : List ℕ) (value : Value) → HasKind scopes name value → kinds_in (with_set scopes name value) ≡ kinds_in scopes

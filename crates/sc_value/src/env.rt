@@ -1,7 +1,7 @@
 //! The values of names, scope by scope.
 ghost use Rattle.std.specs.Prelude.{◌≡◌, ◌<◌, [], ◌∷◌, length, drop, OnOk, OnErr};
 ghost use Rattle.std.specs.FinMap as map;
-ghost use Rattle.sc_value.specs.Scopes.{constant, value_of_name, with_declared, with_set, HasKind};
+ghost use Rattle.sc_value.specs.Scopes.{constant, value_of_name, with_declared, with_set};
 
 use crate::Value;
 use crate::scope::Scope;
@@ -77,10 +77,9 @@ impl Env {
         }
     }
 
-    /// Gives a name another value of the same kind, in the innermost scope that declares it. Every other
-    /// name, also one of the same spelling further out, keeps its value. Takes no memory.
+    /// Gives a name another value, in the innermost scope that declares it. Every other name, also one of the
+    /// same spelling further out, keeps its value; a name that no scope declares changes nothing. Takes no memory.
     pub fn set(&mut self, name: &Text, value: Value)
-        requires { HasKind self.old name.now value }
         ensures { self.new ≡ with_set self.old name.now value }
     {
         let bytes = name.as_bytes();

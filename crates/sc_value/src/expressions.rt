@@ -1,8 +1,7 @@
 //! The value of an expression.
-ghost use Rattle.std.specs.Prelude.{◌≡◌, Some, IfOk};
-ghost use Rattle.sc_syntax.specs.Formed.{IsFormedExpr};
-ghost use Rattle.sc_syntax.specs.Kind.{IsNumber, kind_of_expr};
-ghost use Rattle.sc_value.specs.Expressions.{sort_of, value_of_expr};
+ghost use Rattle.std.specs.Prelude.{◌≡◌};
+ghost use Rattle.sc_syntax.specs.Kind.{kind_of_expr};
+ghost use Rattle.sc_value.specs.Expressions.{sort_of, value_of_expr, IsOfItsKind};
 ghost use Rattle.sc_value.specs.Scopes.{value_of_name, kinds_in};
 
 use crate::numbers::{apply, beside, is_true, truth, unary};
@@ -47,17 +46,17 @@ fn kind_of(expr: &Expr, env: &Env) -> Option<NumSort>
 
 /// The value of an expression of numbers for the names of `env`, or its first fault in the order in which
 /// operands are evaluated. `Overflow` and `DivZero` stand at the operator; `Overflow` of a converted branch of
-/// `?:` stands at the branch's first token. Takes no memory. Recursion goes as deep as the expression nests.
+/// `?:` stands at the branch's first token. An expression that is well typed as a number has a value of its kind,
+/// or one of these faults. What no well-typed expression has counts as 0: an unknown name, a name with an index.
+/// Takes no memory. Recursion goes as deep as the expression nests.
 pub fn eval(expr: &Expr, env: &Env) -> Result<Value, EvalFault>
-    requires formed { IsFormedExpr expr.now }
-    requires typed { IsNumber (kinds_in env.now) expr.now }
     ensures value { result ≡ value_of_expr (value_of_name env.now) expr.now }
-    ensures kind { IfOk result (λ v. kind_of_expr (kinds_in env.now) expr.now ≡ Some (sort_of v)) }
+    ensures kind { IsOfItsKind (kinds_in env.now) expr.now result }
 {
     evaluate(expr, env)
 }
 
-pub(crate) fn evaluate(expr: &Expr, env: &Env) -> Result<Value, EvalFault>
+fn evaluate(expr: &Expr, env: &Env) -> Result<Value, EvalFault>
     ensures { result ≡ value_of_expr (value_of_name env.now) expr.now }
 {
     match &expr.node {

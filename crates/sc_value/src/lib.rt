@@ -3,10 +3,9 @@
 
 mod env;
 mod expressions;
+pub mod laws;
 mod numbers;
 mod scope;
-#[cfg(test)]
-mod tests;
 
 pub use env::Env;
 pub use expressions::eval;

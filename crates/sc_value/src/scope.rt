@@ -1,5 +1,5 @@
 //! One scope: a map from names to values.
-ghost use Rattle.std.specs.Prelude.{◌≡◌, IsSome, OnOk, OnErr};
+ghost use Rattle.std.specs.Prelude.{◌≡◌, if◌then◌else◌, OnOk, OnErr};
 ghost use Rattle.std.specs.FinMap as map;
 
 use crate::Value;
@@ -57,10 +57,9 @@ impl Scope {
         }
     }
 
-    /// Gives a name that the scope has another value. Takes no memory.
+    /// Gives a name that the scope has another value; another name changes nothing. Takes no memory.
     pub(crate) fn set(&mut self, name: &[u8], value: Value)
-        requires { IsSome (map.get self.old name.now) }
-        ensures { self.new ≡ map.insert self.old name.now value }
+        ensures { self.new ≡ (if map.contains_key self.old name.now then map.insert self.old name.now value else self.old) }
     {
         if let Some(place) = self.values.get_mut(name) {
             *place = value;
