@@ -1,2 +1,5 @@
 //! Tests of the parser, classical functions, types and values.
 #![tactic(auto)]
+
+#[cfg(test)]
+mod value;
