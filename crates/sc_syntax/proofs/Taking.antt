@@ -12,7 +12,7 @@ use Rattle.sc_syntax.specs.declared.piece.PieceKind.TheVariants.{Space, LineComm
 use Rattle.sc_syntax.specs.declared.reading.Reading.{Reading}
 use Rattle.sc_syntax.specs.declared.reading.Reading.TheVariants.{Passed, Read, Unread}
 use Rattle.sc_syntax.specs.declared.token.Token.{Token}
-use Rattle.sc_syntax.specs.Cuts.{IsReading, IsAddable, IsRefused, tokens_of, Stands, Takes, Refuses}
+use Rattle.sc_syntax.specs.Cuts.{IsReading, IsAddable, IsNotAdded, tokens_of, Stands, TakesPiece, RefusesPiece}
 use Rattle.sc_syntax.specs.Directives.{Names, IsScanned, Directs, placed}
 use Rattle.sc_syntax.specs.Lexing.{place_after, fault_of, Gives}
 use Rattle.sc_syntax.specs.Spaces.{begins_line}
@@ -101,7 +101,7 @@ scanned_at source found reading s r a =
 -- a reading that is added
 pub takes : (source : List ℕ) (found : Found) (names : Names) (tokens more : List Token) (reading : Reading) → Stands source found → ReadsAs source found names
     → IsReading found.kind (slice_range source found.start found.end) reading → AreRead source tokens → IsAddable reading tokens → more ≡ tokens ++ tokens_of reading found.place found.start found.end
-    → Takes source found.kind found.start found.end names tokens names more
+    → TakesPiece source found.kind found.start found.end names tokens names more
 takes source found names tokens more reading s g r h a e = record {
   new = tokens_of reading found.place found.start found.end;
   gives = g.forth _ (scanned_at source found reading s r (addable_read reading tokens a));
@@ -122,8 +122,8 @@ takes_read source found tokens more reading s r h a e =
 
 -- a reading that is not added
 pub refuses : (source : List ℕ) (found : Found) (names : Names) (tokens : List Token) (reading : Reading) (unread fault : LexFault) → Stands source found → ReadsAs source found names
-    → IsReading found.kind (slice_range source found.start found.end) reading → unread ≡ fault_of found.kind found.place → IsRefused reading unread found.place tokens fault
-    → Refuses source found.kind found.place found.start found.end names tokens fault
+    → IsReading found.kind (slice_range source found.start found.end) reading → unread ≡ fault_of found.kind found.place → IsNotAdded reading unread found.place tokens fault
+    → RefusesPiece source found.kind found.place found.start found.end names tokens fault
 refuses source found names tokens Passed unread fault s g r u f = absurd f
 refuses source found names tokens Unread unread fault s g r u f =
     inl (f ∙ u, λ new after k. scans_none found.kind _ _ _ r new (g.back new after k))
@@ -152,7 +152,7 @@ value_read source place tokens value more h v e l =
 -- a directive that is carried out
 pub directive_refused : (source : List ℕ) (found : Found) (names : Names) (tokens : List Token) (fault : LexFault) → Stands source found → found.kind ≡ Directive
     → fault ≡ faults.BadDefine found.place → ((after : Names) → Directs source names found.place (take found.start source) (slice_range source found.start found.end) after → ⊥)
-    → Refuses source found.kind found.place found.start found.end names tokens fault
+    → RefusesPiece source found.kind found.place found.start found.end names tokens fault
 directive_refused source found names tokens fault s e f none =
     let before = take found.start source in
     let piece = slice_range source found.start found.end in

@@ -9,7 +9,7 @@ use Rattle.sc_syntax.specs.declared.fault.LexFault.{LexFault}
 use Rattle.sc_syntax.specs.declared.fault.LexFault.TheVariants as faults
 use Rattle.sc_syntax.specs.declared.piece.PieceKind.{PieceKind}
 use Rattle.sc_syntax.specs.declared.token.Token.{Token}
-use Rattle.sc_syntax.specs.Cuts.{Stands, Takes, Refuses}
+use Rattle.sc_syntax.specs.Cuts.{Stands, TakesPiece, RefusesPiece}
 use Rattle.sc_syntax.specs.Directives.{Names, no_names}
 use Rattle.sc_syntax.specs.Lexing.{place_after, fault_of, Gives, Reads, at_end, after_piece, at_too_many, at_fault, at_stuck}
 use Rattle.sc_syntax.specs.Pieces.{IsPiece, IsNext, IsStuck}
@@ -47,7 +47,7 @@ whole source rest piece at n kind c = joined source rest piece at (length source
 
 -- one piece more
 pub turn : (source rest piece : List ℕ) (names after : Names) (tokens more : List Token) (at n : ℕ) (kind : PieceKind)
-    → GoesOn source names tokens at → CutsIn source rest piece at (length source) n (begins_line (take at source)) kind → Takes source kind at (at + n) names tokens after more
+    → GoesOn source names tokens at → CutsIn source rest piece at (length source) n (begins_line (take at source)) kind → TakesPiece source kind at (at + n) names tokens after more
     → GoesOn source after more (at + n)
 turn source rest piece names after tokens more at n kind g c t = record {
   goes_on = λ outcome h.
@@ -66,7 +66,7 @@ turn source rest piece names after tokens more at n kind g c t = record {
 -- a piece that is not taken
 pub refused : (source rest piece : List ℕ) (names : Names) (tokens : List Token) (at n : ℕ) (kind : PieceKind) (place : Place) (fault : LexFault)
     → GoesOn source names tokens at → CutsIn source rest piece at (length source) n (begins_line (take at source)) kind → place ≡ place_after (take at source)
-    → Refuses source kind place at (at + n) names tokens fault → Reads source [] no_names [] source (Err fault)
+    → RefusesPiece source kind place at (at + n) names tokens fault → Reads source [] no_names [] source (Err fault)
 refused source rest piece names tokens at n kind place fault g c e (inl h) =
     let fresh = begins_line (take at source) in
     let P : LexFault → Type 0 = λ x. Reads source [] no_names [] source (Err x) in

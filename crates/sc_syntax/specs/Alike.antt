@@ -143,17 +143,20 @@ abbrev mutual
   pure_row end_of-Stmt = no_stmts
   pure_row (more_of-Stmt p a rest) = stmt p (pure_act a) (pure_row rest)
 
--- the same of statements in a list
-abbrev pub pure_stmt_list : List Stmt → PureStmts
-pure_stmt_list [] = no_stmts
-pure_stmt_list (s ∷ ss) = stmt s.place (pure_act s.act) (pure_stmt_list ss)
-
 pub record PureStmt : Type 0 where
   pub place : Place
   pub act : PureAct
 
 abbrev pub pure_stmt : Stmt → PureStmt
 pure_stmt s = record { place = s.place; act = pure_act s.act }
+
+-- statements of a list, as those of a block
+abbrev pub in_row : List PureStmt → PureStmts
+in_row [] = no_stmts
+in_row (s ∷ ss) = stmt s.place s.act (in_row ss)
+
+abbrev pub pure_stmt_list : List Stmt → PureStmts
+pure_stmt_list ss = in_row (map pure_stmt ss)
 
 -- ---- classical functions
 

@@ -71,10 +71,10 @@ IsAddable (Read sort) tokens = length tokens < most_tokens
 IsAddable Unread tokens = ⊥
 
 -- why a reading at a place is not added to the tokens
-abbrev pub IsRefused : Reading → LexFault → Place → List Token → LexFault → Type 0
-IsRefused Passed unread place tokens fault = ⊥
-IsRefused (Read sort) unread place tokens fault = (most_tokens ≤ length tokens) × (fault ≡ faults.TooManyTokens place)
-IsRefused Unread unread place tokens fault = fault ≡ unread
+abbrev pub IsNotAdded : Reading → LexFault → Place → List Token → LexFault → Type 0
+IsNotAdded Passed unread place tokens fault = ⊥
+IsNotAdded (Read sort) unread place tokens fault = (most_tokens ≤ length tokens) × (fault ≡ faults.TooManyTokens place)
+IsNotAdded Unread unread place tokens fault = fault ≡ unread
 
 -- the names that the table holds
 abbrev pub names_of : Defined → Names
@@ -92,14 +92,14 @@ pub record Stands (source : List ℕ) (found : Found) : Type 0 where
   pub place_is : found.place ≡ place_after (take found.start source)
 
 -- what a piece of the source does to the names and the tokens
-pub record Takes (source : List ℕ) (kind : PieceKind) (start end : ℕ) (names : Names) (tokens : List Token) (after : Names) (more : List Token) : Type 0 where
+pub record TakesPiece (source : List ℕ) (kind : PieceKind) (start end : ℕ) (names : Names) (tokens : List Token) (after : Names) (more : List Token) : Type 0 where
   pub new : List Token
   pub gives : Gives source names kind (take start source) (slice_range source start end) new after
   pub grows : more ≡ tokens ++ new
   pub few : length more ≤ most_tokens
 
 -- the piece gives nothing, or more tokens than a source may have
-abbrev pub Refuses : List ℕ → PieceKind → Place → ℕ → ℕ → Names → List Token → LexFault → Type 0
-Refuses source kind place start end names tokens fault =
+abbrev pub RefusesPiece : List ℕ → PieceKind → Place → ℕ → ℕ → Names → List Token → LexFault → Type 0
+RefusesPiece source kind place start end names tokens fault =
     ((fault ≡ fault_of kind place) × ((new : List Token) (after : Names) → Gives source names kind (take start source) (slice_range source start end) new after → ⊥))
     ⊎ ((new : List Token) × ((after : Names) × (Gives source names kind (take start source) (slice_range source start end) new after × (most_tokens < length (tokens ++ new)) × (fault ≡ faults.TooManyTokens place))))

@@ -1,6 +1,6 @@
 //! Tokens are added, up to the number that a source may have.
 ghost use Rattle.std.specs.Prelude.{◌≡◌, ◌≢◌, ◌≤◌, ◌<◌, ◌+◌, ◌^◌, ◌++◌, ◌∷◌, [], length, map, OnOk, IfOk, IfErr, true, false};
-ghost use Rattle.sc_syntax.specs.Cuts.{IsAddable, IsRefused, tokens_of};
+ghost use Rattle.sc_syntax.specs.Cuts.{IsAddable, IsNotAdded, tokens_of};
 ghost use Rattle.sc_syntax.specs.Directives.{placed};
 ghost use Rattle.sc_syntax.specs.TokenLists.{most_tokens};
 
@@ -39,7 +39,7 @@ pub(crate) fn add_reading(
     requires end { end < 2 ^ 32 }
     ensures addable { OnOk result (IsAddable reading tokens.old) }
     ensures ok { OnOk result (tokens.new ≡ tokens.old ++ tokens_of reading place start end) }
-    ensures err { IfErr result (λ f. f ≢ LexFault.Memory → IsRefused reading unread place tokens.old f) }
+    ensures err { IfErr result (λ f. f ≢ LexFault.Memory → IsNotAdded reading unread place tokens.old f) }
 {
     match reading {
         Reading::Passed => Ok(()),

@@ -1,6 +1,6 @@
 //! The lexer.
 ghost use Rattle.std.specs.Prelude.{◌≡◌, ◌≢◌, ◌≤◌, ◌<◌, ◌+◌, ◌^◌, ◌++◌, ◌∷◌, [], List, ℕ, length, take, drop, slice_range, OnOk, IfOk, IfErr, ⊤};
-ghost use Rattle.sc_syntax.specs.Cuts.{names_of, AreValues, Stands, Takes, Refuses};
+ghost use Rattle.sc_syntax.specs.Cuts.{names_of, AreValues, Stands, TakesPiece, RefusesPiece};
 ghost use Rattle.sc_syntax.specs.Lexing.{place_after, fault_of, IsLexed, HasFault, HasOneOutcome};
 ghost use Rattle.sc_syntax.specs.TokenLists.{AreRead};
 ghost use Rattle.sc_syntax.specs.declared.token.Token.{Token as OneToken};
@@ -86,9 +86,9 @@ fn take_word(
     requires small { length source.now ≤ 16_777_216 }
     requires read { AreRead source.now tokens.old }
     requires values { AreValues source.now (names_of names.now) }
-    ensures ok { OnOk result (Takes source.now PieceKind.Word found.start found.end (names_of names.now) tokens.old (names_of names.now) tokens.new) }
+    ensures ok { OnOk result (TakesPiece source.now PieceKind.Word found.start found.end (names_of names.now) tokens.old (names_of names.now) tokens.new) }
     ensures read { OnOk result (AreRead source.now tokens.new) }
-    ensures err { IfErr result (λ f. f ≢ LexFault.Memory → Refuses source.now PieceKind.Word found.place found.start found.end (names_of names.now) tokens.old f) }
+    ensures err { IfErr result (λ f. f ≢ LexFault.Memory → RefusesPiece source.now PieceKind.Word found.place found.start found.end (names_of names.now) tokens.old f) }
 {
     let text = part(source, found.start, found.end);
     match names.value(text) {
@@ -104,7 +104,7 @@ fn take_word(
     }
 }
 
-/// Takes a piece: its tokens are added, or its directive is carried out.
+/// TakesPiece a piece: its tokens are added, or its directive is carried out.
 fn take_piece<'a>(
     alloc: Global,
     source: &'a [u8],
@@ -116,10 +116,10 @@ fn take_piece<'a>(
     requires small { length source.now ≤ 16_777_216 }
     requires read { AreRead source.now tokens.old }
     requires values { AreValues source.now (names_of names.old) }
-    ensures ok { OnOk result (Takes source.now found.kind found.start found.end (names_of names.old) tokens.old (names_of names.new) tokens.new) }
+    ensures ok { OnOk result (TakesPiece source.now found.kind found.start found.end (names_of names.old) tokens.old (names_of names.new) tokens.new) }
     ensures read { OnOk result (AreRead source.now tokens.new) }
     ensures values { OnOk result (AreValues source.now (names_of names.new)) }
-    ensures err { IfErr result (λ f. f ≢ LexFault.Memory → Refuses source.now found.kind found.place found.start found.end (names_of names.old) tokens.old f) }
+    ensures err { IfErr result (λ f. f ≢ LexFault.Memory → RefusesPiece source.now found.kind found.place found.start found.end (names_of names.old) tokens.old f) }
 {
     match found.kind {
         PieceKind::Directive => {

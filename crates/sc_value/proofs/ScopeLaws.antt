@@ -11,7 +11,7 @@ use Rattle.std.specs.Str.{bytes_eq}
 use Rattle.sc_syntax.specs.declared.Kind.TheVariants.{Number}
 use Rattle.sc_value.specs.declared.Value.{Value}
 use Rattle.sc_value.specs.Expressions.{sort_of, kinds_of}
-use Rattle.sc_value.specs.Scopes.{Scope, Scopes, constant, declared_value, value_of_name, kinds_in, with_declared, with_set, HasKind}
+use Rattle.sc_value.specs.Scopes.{Scope, Scopes, constant, declared_value, value_of_name, known_kinds, with_declared, with_set, HasKind}
 
 get_inserted : (scope : Scope) (name q : List ℕ) (value : Value)
     → get (insert scope name value) q ≡ cond (bytes_eq q name) (Some value) (get scope q)
@@ -85,7 +85,7 @@ same_kind false name q value scopes is kind = refl
 
 -- a set keeps the kind of every name
 pub kinds_of_set : (scopes : Scopes) (name : List ℕ) (value : Value) → HasKind scopes name value
-    → kinds_in (with_set scopes name value) ≡ kinds_in scopes
+    → known_kinds (with_set scopes name value) ≡ known_kinds scopes
 kinds_of_set scopes name value kind = λ i q. each q i
   where
     each : (q : List ℕ) → kinds_of (value_of_name (with_set scopes name value)) q ≡ kinds_of (value_of_name scopes) q

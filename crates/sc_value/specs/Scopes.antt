@@ -32,8 +32,8 @@ abbrev pub value_of_name : Scopes → Values
 value_of_name scopes name = option_or (declared_value scopes name) (constant name)
 
 -- the kind of each name
-abbrev pub kinds_in : Scopes → Kinds
-kinds_in scopes = kinds_of (value_of_name scopes)
+abbrev pub known_kinds : Scopes → Kinds
+known_kinds scopes = kinds_of (value_of_name scopes)
 
 -- a name declared in the innermost scope; where that scope has the name, its value is replaced
 abbrev pub with_declared : Scopes → List ℕ → Value → Scopes
@@ -52,4 +52,4 @@ HasKind scopes name value = option_map sort_of (declared_value scopes name) ≡ 
 
 -- a set to a value of the name's kind keeps the kind of every name
 abbrev pub SetsKeepKinds : Type 0
-SetsKeepKinds = (scopes : Scopes) (name : List ℕ) (value : Value) → HasKind scopes name value → kinds_in (with_set scopes name value) ≡ kinds_in scopes
+SetsKeepKinds = (scopes : Scopes) (name : List ℕ) (value : Value) → HasKind scopes name value → known_kinds (with_set scopes name value) ≡ known_kinds scopes

@@ -2,7 +2,7 @@
 ghost use Rattle.std.specs.Prelude.{◌≡◌};
 ghost use Rattle.sc_syntax.specs.Kind.{kind_of_expr};
 ghost use Rattle.sc_value.specs.Expressions.{sort_of, value_of_expr, IsOfItsKind};
-ghost use Rattle.sc_value.specs.Scopes.{value_of_name, kinds_in};
+ghost use Rattle.sc_value.specs.Scopes.{value_of_name, known_kinds};
 
 use crate::numbers::{apply, beside, is_true, truth, unary};
 use crate::{Env, EvalFault, Value};
@@ -20,7 +20,7 @@ impl Value {
 }
 
 fn kind_of(expr: &Expr, env: &Env) -> Option<NumSort>
-    ensures { result ≡ kind_of_expr (kinds_in env.now) expr.now }
+    ensures { result ≡ kind_of_expr (known_kinds env.now) expr.now }
 {
     match &expr.node {
         Node::Int(_) => Some(NumSort::Int),
@@ -51,7 +51,7 @@ fn kind_of(expr: &Expr, env: &Env) -> Option<NumSort>
 /// Takes no memory. Recursion goes as deep as the expression nests.
 pub fn eval(expr: &Expr, env: &Env) -> Result<Value, EvalFault>
     ensures value { result ≡ value_of_expr (value_of_name env.now) expr.now }
-    ensures kind { IsOfItsKind (kinds_in env.now) expr.now result }
+    ensures kind { IsOfItsKind (known_kinds env.now) expr.now result }
 {
     evaluate(expr, env)
 }

@@ -1,5 +1,5 @@
 use Rattle.std.proofs.Common.{◌≡◌, ◌∙◌, sym, subst, ap, List, ℕ, slice_range}
-use Rattle.sc_syntax.specs.Cuts.{names_of, IsReading, Refuses}
+use Rattle.sc_syntax.specs.Cuts.{names_of, IsReading, RefusesPiece}
 use Rattle.sc_syntax.specs.Lexing.{fault_of}
 use Rattle.sc_syntax.specs.declared.piece.PieceKind.{PieceKind}
 use Rattle.sc_syntax.specs.declared.piece.PieceKind.TheVariants.{Word}
@@ -28,5 +28,5 @@ returns-in-None-clause-err c =
     let none : names_of c.args.names.now (slice_range c.args.source.now c.args.found.start c.args.found.end) ≡ _ = ap (names_of c.args.names.now) (sym c.part-text.ensures) ∙ c.in-None.ensures in
     let reads = word_reads c.args.source.now c.args.found (names_of c.args.names.now) c.requires.word none in
     if_err c.add_reading.result _ _ c.add_reading.ensures.err (λ f h n.
-    let R : PieceKind → Type 0 = λ k. Refuses c.args.source.now k c.args.found.place c.args.found.start c.args.found.end (names_of c.args.names.now) c.args.tokens.now f in
+    let R : PieceKind → Type 0 = λ k. RefusesPiece c.args.source.now k c.args.found.place c.args.found.start c.args.found.end (names_of c.args.names.now) c.args.tokens.now f in
     subst R c.requires.word (refuses _ c.args.found _ _ c.read_piece.result _ f c.requires.stands reads reading (ap (λ k. fault_of k c.args.found.place) (sym c.requires.word)) (h n)))
