@@ -1,7 +1,11 @@
 pub mod Chains
 pub mod Gates
 pub mod Heights
+pub mod Kinds
 pub mod Lines
+pub mod Numbers
+pub mod Renaming
 pub mod Runs
+pub mod SameGates
 pub mod Times
 pub mod Wires

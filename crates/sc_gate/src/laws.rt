@@ -1,7 +1,14 @@
 //! What is true of all gate lists.
-ghost use Rattle.std.specs.Prelude.{◌≡◌, ◌<◌, ◌≤◌, ◌∷◌, length, map, slice_index_or, if◌then◌else◌, ◌+◌, ◌++◌, ◌↔◌, reverse, ℕ, Bool, List, Option};
+ghost use Rattle.std.specs.Prelude.{◌≡◌, ◌<◌, ◌≤◌, ◌∷◌, length, map, slice_index_or, if◌then◌else◌, ◌+◌, ◌++◌, ◌↔◌, IsTrue, Some, reverse, ℕ, Bool, List, Option};
 ghost use Rattle.sc_gate.specs.declared.gate.Wire.{Wire};
+ghost use Rattle.sc_base.specs.declared.names.Fixed.{Fixed};
+ghost use Rattle.sc_base.specs.declared.names.GateName.{GateName};
+ghost use Rattle.sc_gate.specs.declared.gate.Kind.{Kind};
 ghost use Rattle.sc_gate.specs.declared.gate.Gate.{Gate};
+ghost use Rattle.sc_gate.specs.Gates.{name_of, operands, IsWellFormed};
+ghost use Rattle.sc_gate.specs.Kinds.{plain_kind, rotation_kind, preparation_kind, IsNamed};
+ghost use Rattle.sc_gate.specs.Renaming.{rename_gate, KeepsClasses, IsOneToOneOn};
+ghost use Rattle.sc_gate.specs.SameGates.{same_kind, same_option, same_gate};
 ghost use Rattle.sc_gate.specs.Heights.{IsHeight, IsThrough, tail_of, height_at, through_at};
 ghost use Rattle.sc_gate.specs.Wires.{member, Shares};
 ghost use Rattle.sc_gate.specs.Runs.{bit_run, AreClassical};
@@ -68,4 +75,27 @@ pub fn bit_runs_compose()
 pub fn reversed_undoes()
     ensures { (gates : List Gate) (bits : List Bool) → AreClassical gates →
         bit_run (gates ++ reverse gates) bits ≡ bits }
+{}
+
+/// The tests of kinds, of optional wires and of gates are true exactly of equal ones.
+pub fn sameness_is_equality()
+    ensures kinds { (k l : Kind) → IsTrue (same_kind k l) ↔ (k ≡ l) }
+    ensures options { (v w : Option Wire) → IsTrue (same_option v w) ↔ (v ≡ w) }
+    ensures gates { (g h : Gate) → IsTrue (same_gate g h) ↔ (g ≡ h) }
+{}
+
+/// A kind made from a name has that name, and every kind is made from its name, with its angle or start value where it has one.
+pub fn kinds_have_names()
+    ensures plain { (n : GateName) (k : Kind) → plain_kind n ≡ Some k → name_of k ≡ n }
+    ensures rotation { (n : GateName) (angle : Fixed) (k : Kind) → rotation_kind n angle ≡ Some k → name_of k ≡ n }
+    ensures preparation { (n : GateName) (start : Bool) (k : Kind) → preparation_kind n start ≡ Some k → name_of k ≡ n }
+    ensures all { (k : Kind) → IsNamed k }
+{}
+
+/// Renaming a gate renames its operands; a renaming that keeps classes and is one to one on the operands keeps a gate well formed.
+pub fn renaming_keeps_gates()
+    ensures operands { (f : Wire → Wire) (g : Gate) → operands (rename_gate f g) ≡ map f (operands g) }
+    ensures twice { (f h : Wire → Wire) (g : Gate) → rename_gate f (rename_gate h g) ≡ rename_gate (λ w. f (h w)) g }
+    ensures well_formed { (f : Wire → Wire) (g : Gate) → KeepsClasses f → IsOneToOneOn (operands g) f →
+        IsWellFormed g → IsWellFormed (rename_gate f g) }
 {}
