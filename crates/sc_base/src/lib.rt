@@ -6,10 +6,12 @@
 #![tactic(auto)]
 
 mod decimal;
+mod line_buffer;
 mod list;
 mod mem_shelf;
 mod mem_sink;
 mod names;
+mod parts;
 mod real;
 mod shelf;
 mod sink;
@@ -19,10 +21,12 @@ mod tests;
 mod text;
 
 pub use decimal::{put_u128, read_fixed, read_u64, read_units, write_fixed};
+pub use line_buffer::LineBuffer;
 pub use list::List;
 pub use mem_shelf::{Held, MemShelf};
 pub use mem_sink::MemSink;
 pub use names::{Class, Fixed, GateName, Place};
+pub use parts::write_parts;
 pub use real::{RealShelf, RealSink};
 pub use shelf::{ReadAllFault, Shelf, read_all};
 pub use sink::{Sink, write_all};
