@@ -7,11 +7,13 @@
 
 mod decimal;
 mod line_buffer;
+mod lines;
 mod list;
 mod mem_shelf;
 mod mem_sink;
 mod names;
 mod parts;
+mod reader;
 mod real;
 mod shelf;
 mod sink;
@@ -22,11 +24,15 @@ mod text;
 
 pub use decimal::{put_u128, read_fixed, read_u64, read_units, write_fixed};
 pub use line_buffer::LineBuffer;
+pub use lines::{Lines, cut_line};
 pub use list::List;
 pub use mem_shelf::{Held, MemShelf};
 pub use mem_sink::MemSink;
 pub use names::{Class, Fixed, GateName, Place};
 pub use parts::write_parts;
+pub use reader::{
+    Whole, take_fixed, take_int, take_number, take_number_line, take_text, take_whole,
+};
 pub use real::{RealShelf, RealSink};
 pub use shelf::{ReadAllFault, Shelf, read_all};
 pub use sink::{Sink, write_all};
