@@ -8,7 +8,7 @@ use Rattle.sc_gate.specs.declared.gate.Wire.{Wire}
 use Rattle.sc_gate.specs.declared.gate.Kind.{Kind}
 use Rattle.sc_gate.specs.declared.gate.Kind.TheVariants as kind
 use Rattle.sc_gate.specs.declared.gate.Gate.{Gate}
-use Rattle.sc_gate.specs.Gates.{name_of}
+use Rattle.sc_gate.specs.Gates.{name_of, IsWellFormed}
 
 abbrev pub qubit : ℕ → Wire
 qubit n = record { class = Q; number = n }
@@ -73,3 +73,9 @@ gate_on k (a ∷ []) = Some (on_one k a)
 gate_on k (a ∷ b ∷ []) = Some (on_two k a b)
 gate_on k (a ∷ b ∷ c ∷ []) = Some (on_three k a b c)
 gate_on k (a ∷ b ∷ c ∷ d ∷ wires) = None
+
+-- a well-formed gate is made of this kind and these operands
+pub record IsMade (k : Kind) (wires : List Wire) : Type 0 where
+  pub gate : Gate
+  pub made : gate_on k wires ≡ Some gate
+  pub well_formed : IsWellFormed gate

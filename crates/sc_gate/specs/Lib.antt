@@ -1,9 +1,11 @@
+pub mod BitRuns
 pub mod Chains
 pub mod Gates
 pub mod Heights
 pub mod Kinds
 pub mod Lines
 pub mod Numbers
+pub mod Paths
 pub mod Renaming
 pub mod Runs
 pub mod SameGates

@@ -1,7 +1,7 @@
 //! The types of wires and gates, and what is known of one gate.
 ghost use Rattle.std.specs.Prelude.{◌≡◌, ◌↔◌, IsTrue, [], ◌∷◌, slice_get, option_to_list};
 ghost use Rattle.std.specs.List.{list_any};
-ghost use Rattle.sc_gate.specs.Kinds.{qubit, cbit, on_one, on_two, on_three, plain_kind, rotation_kind, preparation_kind};
+ghost use Rattle.sc_gate.specs.Kinds.{qubit, cbit, on_one, on_two, on_three, gate_on, plain_kind, rotation_kind, preparation_kind};
 ghost use Rattle.sc_gate.specs.Gates.{name_of, qubits_of, operands, SuitsName, IsWellFormed, undo, Cancels};
 ghost use Rattle.sc_gate.specs.Wires.{member, Shares, shares};
 
@@ -102,6 +102,19 @@ impl Gate {
             a,
             b: Some(b),
             c: Some(c),
+        }
+    }
+
+    /// The gate of this kind on these wires in order. None where there is no wire or more than three. Ask `well_formed` whether
+    /// they suit the kind.
+    pub fn on(kind: Kind, wires: &[Wire]) -> Option<Gate>
+        ensures { result ≡ gate_on kind wires.now }
+    {
+        match *wires {
+            [a] => Some(Gate::one(kind, a)),
+            [a, b] => Some(Gate::two(kind, a, b)),
+            [a, b, c] => Some(Gate::three(kind, a, b, c)),
+            _ => None,
         }
     }
 }
