@@ -18,7 +18,7 @@ both_true : (s t : Bool) → (s && t) ≡ true → (s ≡ true) × (t ≡ true)
 both_true true t h = (refl, h)
 both_true false t h = absurd (true≢false (sym h))
 
-all_names : List GateName
+unfoldable pub all_names : List GateName
 all_names = name.X ∷ name.Y ∷ name.Z ∷ name.H ∷ name.S ∷ name.T ∷ name.Sdag ∷ name.Tdag ∷ name.Cnot ∷ name.Toffoli ∷ name.Fredkin ∷ name.Rx ∷ name.Ry ∷ name.Rz ∷ name.PrepX ∷ name.PrepZ ∷ name.MeasX ∷ name.MeasZ ∷ []
 
 named : (n : GateName) → slice_get all_names (place_of n) ≡ Some n
@@ -42,11 +42,11 @@ named name.PrepZ = refl
 named name.MeasX = refl
 named name.MeasZ = refl
 
-name_from_place : (n m : GateName) → place_of n ≡ place_of m → n ≡ m
+pub name_from_place : (n m : GateName) → place_of n ≡ place_of m → n ≡ m
 name_from_place n m e = let a = named n in let b = named m in let c = ap (slice_get all_names) e in cc
 
 -- the kind of a name with a value
-kind_of : GateName → ℤ → Kind
+unfoldable pub kind_of : GateName → ℤ → Kind
 kind_of name.X v = kind.X
 kind_of name.Y v = kind.Y
 kind_of name.Z v = kind.Z
@@ -66,7 +66,7 @@ kind_of name.PrepZ v = kind.PrepZ (int_eq v (pos 1))
 kind_of name.MeasX v = kind.MeasX
 kind_of name.MeasZ v = kind.MeasZ
 
-kind_again : (k : Kind) → kind_of (name_of k) (value_of k) ≡ k
+pub kind_again : (k : Kind) → kind_of (name_of k) (value_of k) ≡ k
 unfolding kind_of
 kind_again kind.X = refl
 kind_again kind.Y = refl

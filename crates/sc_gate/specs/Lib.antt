@@ -3,6 +3,7 @@ pub mod Chains
 pub mod Gates
 pub mod Heights
 pub mod Kinds
+pub mod LastGates
 pub mod Lines
 pub mod Numbers
 pub mod Paths
@@ -10,4 +11,5 @@ pub mod Renaming
 pub mod Runs
 pub mod SameGates
 pub mod Times
+pub mod WireTables
 pub mod Wires

@@ -1,5 +1,5 @@
 //! What is true of all gate lists.
-ghost use Rattle.std.specs.Prelude.{◌≡◌, ◌≢◌, ◌<◌, ◌≤◌, ◌*◌, ◌^◌, get_or, set, bit_xor, [], ◌∷◌, true, false, None, length, map, slice_index_or, if◌then◌else◌, ◌+◌, ◌++◌, ◌↔◌, IsTrue, Some, reverse, ℕ, Bool, List, Option};
+ghost use Rattle.std.specs.Prelude.{◌≡◌, ◌≢◌, suc, ◌<◌, ◌≤◌, ◌*◌, ◌^◌, get_or, set, bit_xor, [], ◌∷◌, true, false, None, length, map, slice_get, slice_index_or, if◌then◌else◌, ◌+◌, ◌++◌, ◌↔◌, IsTrue, Some, reverse, ℕ, Bool, List, Option};
 ghost use Rattle.sc_gate.specs.declared.gate.Wire.{Wire};
 ghost use Rattle.sc_base.specs.declared.names.Fixed.{Fixed};
 ghost use Rattle.sc_base.specs.declared.names.GateName.{GateName};
@@ -14,6 +14,7 @@ ghost use Rattle.sc_gate.specs.Kinds.{on_one, on_two, on_three, gate_on, IsMade,
 ghost use Rattle.sc_gate.specs.Renaming.{rename_gate, rename_timed, KeepsClasses, IsOneToOneOn, IsOneToOne};
 ghost use Rattle.sc_gate.specs.SameGates.{same_kind, same_option, same_gate};
 ghost use Rattle.sc_gate.specs.Heights.{IsHeight, IsThrough, tail_of, height_at, through_at};
+ghost use Rattle.sc_gate.specs.LastGates.{has_at, last_on, IsLastOn};
 ghost use Rattle.sc_gate.specs.Wires.{member, Shares};
 ghost use Rattle.sc_gate.specs.BitRuns.{NoneChanges, UseOnly, KeepsApart, Matches, xors};
 ghost use Rattle.sc_gate.specs.Runs.{xor, bit_at, xor_at, bit_run, number, AreClassical};
@@ -188,4 +189,13 @@ pub fn bits_have_numbers()
     ensures xor { (xs ys : List Bool) → length xs ≡ length ys → number (xors xs ys) ≡ bit_xor (number xs) (number ys) }
     ensures item { (bits : List Bool) (w : ℕ) (d : Bool) → w < length bits → bit_at bits w ≡ get_or bits w d }
     ensures set { (w : ℕ) (v : Bool) (bits : List Bool) → xor_at w v bits ≡ set bits w (xor (bit_at bits w) v) }
+{}
+
+/// `last_on` is the last gate before a position that has the wire, where one has it; and with one more gate that has it, it is
+/// that gate, as a table that puts each gate on its wires in turn has it.
+pub fn last_gates_are_last()
+    ensures some { (gates : List Gate) (w : Wire) (n p : ℕ) → last_on gates w n ≡ Some p → IsLastOn gates w n p }
+    ensures none { (gates : List Gate) (w : Wire) (n x : ℕ) → last_on gates w n ≡ None → x < n → has_at gates x w ≡ false }
+    ensures next { (gates : List Gate) (x : ℕ) (gate : Gate) (w : Wire) → slice_get gates x ≡ Some gate →
+        last_on gates w (suc x) ≡ (if member w (operands gate) then Some x else last_on gates w x) }
 {}
