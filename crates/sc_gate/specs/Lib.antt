@@ -10,6 +10,7 @@ pub mod Paths
 pub mod Renaming
 pub mod Runs
 pub mod SameGates
+pub mod Texts
 pub mod Times
 pub mod WireTables
 pub mod Wires

@@ -14,7 +14,11 @@ ghost use Rattle.sc_gate.specs.Kinds.{on_one, on_two, on_three, gate_on, IsMade,
 ghost use Rattle.sc_gate.specs.Renaming.{rename_gate, rename_timed, KeepsClasses, IsOneToOneOn, IsOneToOne};
 ghost use Rattle.sc_gate.specs.SameGates.{same_kind, same_option, same_gate};
 ghost use Rattle.sc_gate.specs.Heights.{IsHeight, IsThrough, tail_of, height_at, through_at};
+ghost use Rattle.sc_base.specs.Lines.{IsLine};
+ghost use Rattle.sc_base.specs.Numerals.{EndsNumber};
 ghost use Rattle.sc_gate.specs.LastGates.{has_at, last_on, IsLastOn};
+ghost use Rattle.sc_gate.specs.Lines.{wire_text, gate_line, flat_header, gate_lines, flat_text};
+ghost use Rattle.sc_gate.specs.Texts.{IsNumbered, HasLine, HaveLines, AreCounts};
 ghost use Rattle.sc_gate.specs.Wires.{member, Shares};
 ghost use Rattle.sc_gate.specs.BitRuns.{NoneChanges, UseOnly, KeepsApart, Matches, xors};
 ghost use Rattle.sc_gate.specs.Runs.{xor, bit_at, xor_at, bit_run, number, AreClassical};
@@ -189,6 +193,23 @@ pub fn bits_have_numbers()
     ensures xor { (xs ys : List Bool) → length xs ≡ length ys → number (xors xs ys) ≡ bit_xor (number xs) (number ys) }
     ensures item { (bits : List Bool) (w : ℕ) (d : Bool) → w < length bits → bit_at bits w ≡ get_or bits w d }
     ensures set { (w : ℕ) (v : Bool) (bits : List Bool) → xor_at w v bits ≡ set bits w (xor (bit_at bits w) v) }
+{}
+
+/// Texts of wires, lines of gates and flat texts are read one way, whatever stands behind them; behind the text of a wire no
+/// digit stands.
+pub fn texts_are_read_one_way()
+    ensures wires { (v w : Wire) (x y : List ℕ) → IsNumbered v → IsNumbered w → EndsNumber x → EndsNumber y →
+        wire_text v ++ x ≡ wire_text w ++ y → (v ≡ w) × (x ≡ y) }
+    ensures lines { (g h : Gate) (x y : List ℕ) → HasLine g → HasLine h → gate_line g ++ x ≡ gate_line h ++ y →
+        (g ≡ h) × (x ≡ y) }
+    ensures whole { (g : Gate) → HasLine g → IsLine (gate_line g) }
+    ensures lists { (gates others : List Gate) (x y : List ℕ) → HaveLines gates → HaveLines others →
+        length gates ≡ length others → gate_lines gates ++ x ≡ gate_lines others ++ y → (gates ≡ others) × (x ≡ y) }
+    ensures headers { (q c g q' c' g' : ℕ) (x y : List ℕ) → AreCounts q c g → AreCounts q' c' g' →
+        flat_header q c g ++ x ≡ flat_header q' c' g' ++ y → (q ≡ q') × (c ≡ c') × (g ≡ g') × (x ≡ y) }
+    ensures texts { (q c q' c' : ℕ) (gates others : List Gate) (x y : List ℕ) → AreCounts q c (length gates) →
+        AreCounts q' c' (length others) → HaveLines gates → HaveLines others →
+        flat_text q c gates ++ x ≡ flat_text q' c' others ++ y → (q ≡ q') × (c ≡ c') × (gates ≡ others) × (x ≡ y) }
 {}
 
 /// `last_on` is the last gate before a position that has the wire, where one has it; and with one more gate that has it, it is
