@@ -6,10 +6,18 @@
 #![tactic(auto)]
 
 mod decimal;
+pub mod laws;
+mod limits;
+mod line_buffer;
+mod lines;
 mod list;
 mod mem_shelf;
 mod mem_sink;
+mod name_map;
+mod name_text;
 mod names;
+mod parts;
+mod reader;
 mod real;
 mod shelf;
 mod sink;
@@ -19,10 +27,22 @@ mod tests;
 mod text;
 
 pub use decimal::{put_u128, read_fixed, read_u64, read_units, write_fixed};
+pub use limits::{
+    MOST_COUNT, MOST_DEPTH, MOST_FLAT_WIRES, MOST_GATES, MOST_INSTANCES, MOST_ITEMS, MOST_NESTING,
+    MOST_REACH, MOST_SOURCE_BYTES, MOST_STEPS, MOST_TEXT_BYTES, MOST_TOKENS, MOST_WIRES,
+};
+pub use line_buffer::LineBuffer;
+pub use lines::{Lines, cut_line};
 pub use list::List;
 pub use mem_shelf::{Held, MemShelf};
 pub use mem_sink::MemSink;
+pub use name_map::NameMap;
+pub use name_text::{begins_name, continues_name, is_name_text};
 pub use names::{Class, Fixed, GateName, Place};
+pub use parts::write_parts;
+pub use reader::{
+    Whole, take_fixed, take_int, take_number, take_number_line, take_text, take_whole,
+};
 pub use real::{RealShelf, RealSink};
 pub use shelf::{ReadAllFault, Shelf, read_all};
 pub use sink::{Sink, write_all};

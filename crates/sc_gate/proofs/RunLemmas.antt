@@ -131,7 +131,7 @@ apart_three a (Some b) None e d = absurd (let f : ⊥ = cc in f)
 apart_three a (Some b) (Some c) e d = (wires_differ a c (let f : a.class ≡ c.class = cc in f) d.0.1.0, wires_differ b c (let f : b.class ≡ c.class = cc in f) d.1.0.0)
 
 -- the operands of a kind without a classical bit are its qubits
-no_bit : (n : GateName) (classes : List Class) → is_measurement n ≡ false → SuitsName n classes → classes ≡ replicate (qubits_of n) Q
+pub no_bit : (n : GateName) (classes : List Class) → is_measurement n ≡ false → SuitsName n classes → classes ≡ replicate (qubits_of n) Q
 no_bit n classes h (inl e) = e
 no_bit n classes h (inr (m, e)) = absurd (let f : ⊥ = cc in f)
 

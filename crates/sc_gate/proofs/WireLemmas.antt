@@ -18,13 +18,13 @@ or_right : (s t : Bool) → t ≡ true → (s || t) ≡ true
 or_right true t h = refl
 or_right false t h = h
 
-same_class-true : (c d : Class) → same_class c d ≡ true → c ≡ d
+pub same_class-true : (c d : Class) → same_class c d ≡ true → c ≡ d
 same_class-true Q Q h = refl
 same_class-true Q C h = cc
 same_class-true C Q h = cc
 same_class-true C C h = refl
 
-same_class-refl : (c : Class) → same_class c c ≡ true
+pub same_class-refl : (c : Class) → same_class c c ≡ true
 same_class-refl Q = refl
 same_class-refl C = refl
 

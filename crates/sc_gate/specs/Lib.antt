@@ -1,7 +1,16 @@
+pub mod BitRuns
 pub mod Chains
 pub mod Gates
 pub mod Heights
+pub mod Kinds
+pub mod LastGates
 pub mod Lines
+pub mod Numbers
+pub mod Paths
+pub mod Renaming
 pub mod Runs
+pub mod SameGates
+pub mod Texts
 pub mod Times
+pub mod WireTables
 pub mod Wires

@@ -9,6 +9,7 @@ use Rattle.sc_gate.specs.declared.gate.Kind.{Kind}
 use Rattle.sc_gate.specs.declared.gate.Kind.TheVariants as kind
 use Rattle.sc_gate.specs.declared.gate.Gate.{Gate}
 use Rattle.sc_base.specs.Decimals.{fixed_text}
+pub use Rattle.sc_base.specs.Numerals.{number_line}
 use Rattle.sc_gate.specs.Gates.{name_of, operands}
 
 -- `q` for a qubit and `c` for a classical bit
@@ -42,10 +43,6 @@ after_commas texts = flat_map (λ text. 44 ∷ text) texts
 abbrev pub gate_line : Gate → List ℕ
 gate_line gate =
     gate_text (name_of gate.kind) ++ codes " " ++ join_with_byte 44 (map wire_text (operands gate) ++ value_texts gate.kind) ++ codes "\n"
-
--- a word, a space, a number and a line feed
-abbrev pub number_line : List ℕ → ℕ → List ℕ
-number_line word n = word ++ codes " " ++ decimal n ++ codes "\n"
 
 -- the four lines before the gate lines of a flat text
 abbrev pub flat_header : ℕ → ℕ → ℕ → List ℕ

@@ -24,11 +24,12 @@ pub fn write_number_line<O: Sink>(word: &[u8], number: u128, out: &mut O) -> Res
     Ok(())
 }
 
-/// Writes the first four lines of a flat text.
-fn write_header<O: Sink>(
+/// Writes the four lines that stand before the gate lines of a flat text of so many qubits, classical bits and gates.
+/// Takes no memory. At a fault of the sink a prefix of the lines is written.
+pub fn write_header<O: Sink>(
     qubits: u128,
     cbits: u128,
-    gates: u128,
+    gates: u64,
     out: &mut O,
 ) -> Result<(), WriteFault>
     requires { O.is_ended out.old ≡ false }
@@ -40,7 +41,7 @@ fn write_header<O: Sink>(
     write_all(out, b"flat 1\n")?;
     write_number_line(b"qbits", qubits, out)?;
     write_number_line(b"cbits", cbits, out)?;
-    write_number_line(b"gates", gates, out)?;
+    write_number_line(b"gates", gates as u128, out)?;
     Ok(())
 }
 
@@ -71,7 +72,7 @@ pub fn write_flat<O: Sink>(
     ensures prefix { WrotePrefix O.tells O.bytes out.old out.new (flat_text qubits cbits gates.now) }
     ensures cause { HasCause (O.faults out.old) (O.faults out.new) result }
 {
-    write_header(qubits, cbits, gates.len() as u128, out)?;
+    write_header(qubits, cbits, gates.len() as u64, out)?;
     write_gates(gates, out)?;
     Ok(())
 }

@@ -1,6 +1,7 @@
 //! The types of wires and gates, and what is known of one gate.
 ghost use Rattle.std.specs.Prelude.{◌≡◌, ◌↔◌, IsTrue, [], ◌∷◌, slice_get, option_to_list};
 ghost use Rattle.std.specs.List.{list_any};
+ghost use Rattle.sc_gate.specs.Kinds.{qubit, cbit, on_one, on_two, on_three, gate_on, plain_kind, rotation_kind, preparation_kind};
 ghost use Rattle.sc_gate.specs.Gates.{name_of, qubits_of, operands, SuitsName, IsWellFormed, undo, Cancels};
 ghost use Rattle.sc_gate.specs.Wires.{member, Shares, shares};
 
@@ -45,7 +46,125 @@ pub struct Gate {
     pub c: Option<Wire>,
 }
 
+impl Wire {
+    /// The qubit of this number.
+    pub fn qubit(number: u32) -> Wire
+        ensures { result ≡ qubit number }
+    {
+        Wire {
+            class: Class::Q,
+            number,
+        }
+    }
+
+    /// The classical bit of this number.
+    pub fn cbit(number: u32) -> Wire
+        ensures { result ≡ cbit number }
+    {
+        Wire {
+            class: Class::C,
+            number,
+        }
+    }
+}
+
+impl Gate {
+    /// The gate of this kind on one wire.
+    pub fn one(kind: Kind, a: Wire) -> Gate
+        ensures { result ≡ on_one kind a }
+    {
+        Gate {
+            kind,
+            a,
+            b: None,
+            c: None,
+        }
+    }
+
+    /// The gate of this kind on two wires in this order.
+    pub fn two(kind: Kind, a: Wire, b: Wire) -> Gate
+        ensures { result ≡ on_two kind a b }
+    {
+        Gate {
+            kind,
+            a,
+            b: Some(b),
+            c: None,
+        }
+    }
+
+    /// The gate of this kind on three wires in this order.
+    pub fn three(kind: Kind, a: Wire, b: Wire, c: Wire) -> Gate
+        ensures { result ≡ on_three kind a b c }
+    {
+        Gate {
+            kind,
+            a,
+            b: Some(b),
+            c: Some(c),
+        }
+    }
+
+    /// The gate of this kind on these wires in order. None where there is no wire or more than three. Ask `well_formed` whether
+    /// they suit the kind.
+    pub fn on(kind: Kind, wires: &[Wire]) -> Option<Gate>
+        ensures { result ≡ gate_on kind wires.now }
+    {
+        match *wires {
+            [a] => Some(Gate::one(kind, a)),
+            [a, b] => Some(Gate::two(kind, a, b)),
+            [a, b, c] => Some(Gate::three(kind, a, b, c)),
+            _ => None,
+        }
+    }
+}
+
 impl Kind {
+    /// The kind of a name that has neither an angle nor a start value. None for a rotation or a preparation.
+    pub fn plain(name: GateName) -> Option<Kind>
+        ensures { result ≡ plain_kind name }
+    {
+        match name {
+            GateName::X => Some(Kind::X),
+            GateName::Y => Some(Kind::Y),
+            GateName::Z => Some(Kind::Z),
+            GateName::H => Some(Kind::H),
+            GateName::S => Some(Kind::S),
+            GateName::T => Some(Kind::T),
+            GateName::Sdag => Some(Kind::Sdag),
+            GateName::Tdag => Some(Kind::Tdag),
+            GateName::Cnot => Some(Kind::Cnot),
+            GateName::Toffoli => Some(Kind::Toffoli),
+            GateName::Fredkin => Some(Kind::Fredkin),
+            GateName::MeasX => Some(Kind::MeasX),
+            GateName::MeasZ => Some(Kind::MeasZ),
+            GateName::Rx | GateName::Ry | GateName::Rz | GateName::PrepX | GateName::PrepZ => None,
+        }
+    }
+
+    /// The rotation of this name by an angle. None where the name is not Rx, Ry or Rz.
+    pub fn rotation(name: GateName, angle: Fixed) -> Option<Kind>
+        ensures { result ≡ rotation_kind name angle }
+    {
+        match name {
+            GateName::Rx => Some(Kind::Rx(angle)),
+            GateName::Ry => Some(Kind::Ry(angle)),
+            GateName::Rz => Some(Kind::Rz(angle)),
+            _ => None,
+        }
+    }
+
+    /// The preparation of this name with a start value. None where the name is not PrepX or PrepZ.
+    pub fn preparation(name: GateName, start: bool) -> Option<Kind>
+        ensures { result ≡ preparation_kind name start }
+    {
+        match name {
+            GateName::PrepX => Some(Kind::PrepX(start)),
+            GateName::PrepZ => Some(Kind::PrepZ(start)),
+            _ => None,
+        }
+    }
+
     /// The name, without the angle or start value.
     pub fn name(&self) -> GateName
         ensures { result ≡ name_of self.now }
@@ -118,6 +237,13 @@ pub fn same_kind(a: &Gate, b: &Gate) -> bool
     ensures { IsTrue result ↔ (a.now.kind ≡ b.now.kind) }
 {
     a.kind == b.kind
+}
+
+/// Whether kind and operands are the same.
+pub fn same_gate(a: &Gate, b: &Gate) -> bool
+    ensures { IsTrue result ↔ (a.now ≡ b.now) }
+{
+    same_kind(a, b) && same_operands(a, b)
 }
 
 /// Whether the gates share a wire.

@@ -7,12 +7,14 @@ pub mod laws;
 mod line;
 mod slow;
 mod times;
+mod wire_table;
 
-pub use flat::{write_flat, write_number_line};
-pub use gate::{Gate, Kind, Wire, arity, cancels, depends, same_kind, well_formed, wire_at};
-pub use line::{Line, gate_name, write_gate};
+pub use flat::{write_flat, write_header, write_number_line};
+pub use gate::{
+    Gate, Kind, Wire, arity, cancels, depends, same_gate, same_kind, well_formed, wire_at,
+};
+pub use line::{gate_name, push_wire, write_gate};
+pub use sc_base::LineBuffer as Line;
 pub use slow::slow_critical;
 pub use times::Times;
-
-#[cfg(test)]
-mod tests;
+pub use wire_table::WireTable;
