@@ -17,7 +17,8 @@ use Rattle.sc_syntax.specs.Directives as directive
 use Rattle.sc_syntax.specs.Lexing.{place_after, Gives, Reads, at_end, after_piece, at_too_many, at_fault, at_stuck, LexedAreRead}
 use Rattle.sc_syntax.specs.Pieces.{IsPiece, IsReadAs}
 use Rattle.sc_syntax.specs.Spaces.{begins_line}
-use Rattle.sc_syntax.specs.TokenLists.{most_tokens, text_of, FitsText, IsRead, AreRead}
+use Rattle.sc_base.specs.Limits.{most_tokens}
+use Rattle.sc_syntax.specs.TokenLists.{text_of, FitsText, IsRead, AreRead}
 use Rattle.sc_syntax.proofs.Definitions.{values_behind}
 use Rattle.sc_syntax.proofs.Readings.{fits}
 use Rattle.sc_syntax.proofs.Taking.{placed_read}

@@ -7,7 +7,9 @@ use Rattle.std.proofs.lemmas.List.{length-append, take_at, drop_at, take_more, d
 use Rattle.std.specs.List.{list_all, prefix_len}
 use Rattle.sc_syntax.specs.declared.piece.PieceKind.{PieceKind}
 use Rattle.sc_syntax.specs.declared.piece.PieceKind.TheVariants.{Space, LineComment, BlockComment, OpenComment, Directive, Word, Number, Sign}
-use Rattle.sc_syntax.specs.Bytes.{is_letter, is_digit, is_word}
+use Rattle.std.proofs.lemmas.List.Sums.{AllPass-from_list_all, list_all-from_AllPass}
+use Rattle.sc_base.specs.NameTexts.{begins_name, continues_name}
+use Rattle.sc_syntax.specs.Bytes.{is_digit}
 use Rattle.sc_syntax.specs.Cuts.{BeginsWith, HasNoMark, IsLongestMark}
 use Rattle.sc_syntax.specs.Pieces.{is_number, begins_digit, begins_number, HasNoEnd, IsPiece, IsNext, IsStuck}
 use Rattle.sc_syntax.specs.Spaces.{is_white, is_inline}
@@ -85,13 +87,13 @@ pub space_next : (fresh : Bool) (z : List ℕ) (n : ℕ) → 0 < length z → is
 space_next fresh [] n l h e = absurd (omega arith)
 space_next fresh (c ∷ cs) n l h e = space_front fresh c cs n h e
 
-pub word_next : (fresh : Bool) (z : List ℕ) (n : ℕ) → 0 < length z → is_letter (slice_index z 0) ≡ true → n ≡ 1 + prefix_len is_word (drop 1 z) → IsNext fresh Word (take n z) (drop n z)
+pub word_next : (fresh : Bool) (z : List ℕ) (n : ℕ) → 0 < length z → begins_name (slice_index z 0) ≡ true → n ≡ 1 + prefix_len continues_name (drop 1 z) → IsNext fresh Word (take n z) (drop n z)
 word_next fresh [] n l h e = absurd (omega arith)
 word_next fresh (c ∷ cs) n l h e =
     let P : ℕ → Type 0 = λ k. IsNext fresh Word (take k (c ∷ cs)) (drop k (c ∷ cs)) in
     subst P (sym (e ∙ one-add _)) (record {
-      is_piece = (h, front_passes is_word cs);
-      is_longest = run_longest fresh is_word Word c _ _ (front_stops is_word cs) (letter_by c h) (λ ds p. p.1);
+      is_piece = (h, AllPass-from_list_all continues_name (take (prefix_len continues_name cs) cs) (front_passes continues_name cs));
+      is_longest = run_longest fresh continues_name Word c _ _ (front_stops continues_name cs) (letter_by c h) (λ ds p. list_all-from_AllPass continues_name ds p.1);
     })
 
 -- the beginning of a number lies in its run
@@ -245,7 +247,7 @@ open_next fresh z b h =
 -- nothing but a mark can stand at the front of the bytes
 pub record IsPlain (fresh : Bool) (z : List ℕ) : Type 0 where
   pub white : is_white (slice_index z 0) ≡ false
-  pub letter : is_letter (slice_index z 0) ≡ false
+  pub letter : begins_name (slice_index z 0) ≡ false
   pub number : begins_number z ≡ false
   pub directive : fresh ≡ true → slice_index z 0 ≡ 35 → ⊥
   pub line : BeginsWith z 47 47 → ⊥
@@ -276,7 +278,7 @@ only_sign : (fresh : Bool) (z : List ℕ) → IsPlain fresh z → (other : Piece
 only_sign fresh z h Space [] r p e = absurd p
 only_sign fresh z h Space (c ∷ cs) r p e = absurd (false≢true (sym h.white ∙ ap (λ x. is_white (slice_index x 0)) (sym e) ∙ p.0))
 only_sign fresh z h Word [] r p e = absurd p
-only_sign fresh z h Word (c ∷ cs) r p e = absurd (false≢true (sym h.letter ∙ ap (λ x. is_letter (slice_index x 0)) (sym e) ∙ p.0))
+only_sign fresh z h Word (c ∷ cs) r p e = absurd (false≢true (sym h.letter ∙ ap (λ x. begins_name (slice_index x 0)) (sym e) ∙ p.0))
 only_sign fresh z h Number [] r p e = absurd p
 only_sign fresh z h Number (c ∷ cs) r p e = absurd (false≢true (sym h.number ∙ ap begins_number (sym e) ∙ number_front (c ∷ cs) r p.0))
 only_sign fresh z h LineComment q r p e = absurd (h.line (two_bytes 47 47 p.0 q r z p.1 e))

@@ -5,7 +5,8 @@ use Rattle.sc_syntax.specs.declared.piece.PieceKind.{PieceKind}
 use Rattle.sc_syntax.specs.declared.piece.PieceKind.TheVariants.{Space, LineComment, BlockComment, OpenComment, Directive, Word, Number, Sign}
 use Rattle.sc_syntax.specs.declared.token.Mark.{Mark}
 use Rattle.sc_syntax.specs.declared.token.Mark.TheVariants as mark
-use Rattle.sc_syntax.specs.Bytes.{is_letter, is_digit}
+use Rattle.sc_base.specs.NameTexts.{begins_name}
+use Rattle.sc_syntax.specs.Bytes.{is_digit}
 use Rattle.sc_syntax.specs.Marks.{mark_text}
 use Rattle.sc_syntax.specs.Pieces.{begins_digit, begins_number, IsPiece}
 use Rattle.sc_syntax.specs.Spaces.{is_white}
@@ -20,7 +21,7 @@ slash_kind (d ∷ ds) = cond (d == 47) LineComment (cond (d == 42) (cond (has_en
 abbrev pub kind_by : List ℕ → PieceKind
 kind_by [] = Sign
 kind_by (c ∷ cs) =
-    cond (is_white c) Space (cond (is_letter c) Word (cond (is_digit c) Number (cond (c == 46) Number (cond (c == 35) Directive (cond (c == 47) (slash_kind cs) Sign)))))
+    cond (is_white c) Space (cond (begins_name c) Word (cond (is_digit c) Number (cond (c == 46) Number (cond (c == 35) Directive (cond (c == 47) (slash_kind cs) Sign)))))
 
 pub no : (b : Bool) → (b ≡ true → ⊥) → b ≡ false
 no true h = absurd (h refl)
@@ -31,7 +32,7 @@ no false h = refl
 pub white_by : (c : ℕ) → is_white c ≡ true → (ds : List ℕ) → kind_by (c ∷ ds) ≡ Space
 white_by c h ds = rw h refl
 
-pub letter_by : (c : ℕ) → is_letter c ≡ true → (ds : List ℕ) → kind_by (c ∷ ds) ≡ Word
+pub letter_by : (c : ℕ) → begins_name c ≡ true → (ds : List ℕ) → kind_by (c ∷ ds) ≡ Word
 letter_by c h ds =
     let w : is_white c ≡ false = no _ (λ k. white_letter c k h) in
     rw (w, h) refl
@@ -39,7 +40,7 @@ letter_by c h ds =
 digit_by : (c : ℕ) → is_digit c ≡ true → (ds : List ℕ) → kind_by (c ∷ ds) ≡ Number
 digit_by c h ds =
     let w : is_white c ≡ false = no _ (λ k. white_digit c k h) in
-    let l : is_letter c ≡ false = no _ (λ k. letter_digit c k h) in
+    let l : begins_name c ≡ false = no _ (λ k. letter_digit c k h) in
     rw (w, l, h) refl
 
 point_by : (c : ℕ) → (c == 46) ≡ true → (ds : List ℕ) → kind_by (c ∷ ds) ≡ Number

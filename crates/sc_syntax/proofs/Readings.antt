@@ -13,7 +13,8 @@ use Rattle.sc_syntax.specs.declared.token.TokenSort.TheVariants as sort
 use Rattle.sc_syntax.specs.Cuts.{IsReading, IsAddable, tokens_of}
 use Rattle.sc_syntax.specs.Directives.{token_at, IsScanned}
 use Rattle.sc_syntax.specs.Pieces.{IsPiece, IsReadAs, IsWordSort, IsNumberSort, IsMarkSort}
-use Rattle.sc_syntax.specs.TokenLists.{FitsText, most_tokens}
+use Rattle.sc_base.specs.Limits.{most_tokens}
+use Rattle.sc_syntax.specs.TokenLists.{FitsText}
 use Rattle.sc_syntax.proofs.MarkTable.{one_mark_text}
 use Rattle.sc_syntax.proofs.NumberSorts.{one_number_sort}
 use Rattle.sc_syntax.proofs.ReservedTable.{one_word_sort}

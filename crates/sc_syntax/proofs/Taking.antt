@@ -16,7 +16,8 @@ use Rattle.sc_syntax.specs.Cuts.{IsReading, IsAddable, IsNotAdded, tokens_of, St
 use Rattle.sc_syntax.specs.Directives.{Names, IsScanned, Directs, placed}
 use Rattle.sc_syntax.specs.Lexing.{place_after, fault_of, Gives}
 use Rattle.sc_syntax.specs.Spaces.{begins_line}
-use Rattle.sc_syntax.specs.TokenLists.{most_tokens, IsRead, AreRead}
+use Rattle.sc_base.specs.Limits.{most_tokens}
+use Rattle.sc_syntax.specs.TokenLists.{IsRead, AreRead}
 use Rattle.sc_syntax.proofs.CutLemmas.{length_part, read_token}
 use Rattle.sc_syntax.proofs.Readings.{StandsAt, scans, scans_none, addable_read, few}
 use Rattle.std.proofs.lemmas.List.{length-take-le}

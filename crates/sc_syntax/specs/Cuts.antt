@@ -4,6 +4,7 @@ use Rattle.std.specs.Option.{option_map}
 use Rattle.std.specs.BTreeMap.{get_by}
 use Rattle.std.specs.Cmp.Lexicographic.{slice_cmp}
 use Rattle.std.specs.Ordering.{nat_cmp}
+use Rattle.sc_base.specs.NameTexts.{continues_name}
 use Rattle.sc_base.specs.declared.Place.{Place}
 use Rattle.sc_syntax.specs.declared.define.Defined.{Defined}
 use Rattle.sc_syntax.specs.declared.fault.LexFault.{LexFault}
@@ -18,19 +19,19 @@ use Rattle.sc_syntax.specs.declared.reading.Reading.TheVariants.{Passed, Read, U
 use Rattle.sc_syntax.specs.declared.token.Mark.{Mark}
 use Rattle.sc_syntax.specs.declared.token.Token.{Token}
 use Rattle.sc_syntax.specs.declared.token.TokenSort.{TokenSort}
-use Rattle.sc_syntax.specs.Bytes.{is_word}
 use Rattle.sc_syntax.specs.Directives.{Names}
 use Rattle.sc_syntax.specs.Lexing.{Gives, fault_of, place_after}
 use Rattle.sc_syntax.specs.Marks.{mark_text}
 use Rattle.sc_syntax.specs.Pieces.{is_number, IsPiece, IsReadAs}
 use Rattle.sc_syntax.specs.Spaces.{is_white, is_blank, is_inline, begins_line}
-use Rattle.sc_syntax.specs.TokenLists.{most_tokens, IsRead}
+use Rattle.sc_base.specs.Limits.{most_tokens}
+use Rattle.sc_syntax.specs.TokenLists.{IsRead}
 
 abbrev pub in_class : Class → ℕ → Bool
 in_class class.White = is_white
 in_class class.Blank = is_blank
 in_class class.Line = is_inline
-in_class class.Word = is_word
+in_class class.Word = continues_name
 in_class class.Number = is_number
 
 -- the first two bytes

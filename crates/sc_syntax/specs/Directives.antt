@@ -1,6 +1,7 @@
 -- Directives, and the names that they define.
 use Rattle.std.specs.Prelude.{ℕ, ◌≡◌, ◌≢◌, ◌+◌, ◌<◌, Bool, true, false, ◌⊎◌, if◌then◌else◌, List, [], ◌∷◌, ◌++◌, length, take, drop, slice_range, count_by, All, Option, Some, None, codes}
 use Rattle.std.specs.List.{prefix_len}
+use Rattle.sc_base.specs.NameTexts.{continues_name}
 use Rattle.sc_base.specs.Texts.{same}
 use Rattle.sc_base.specs.declared.Place.{Place}
 use Rattle.sc_syntax.specs.declared.piece.PieceKind.{PieceKind}
@@ -9,7 +10,6 @@ use Rattle.sc_syntax.specs.declared.token.Mark.TheVariants as mark
 use Rattle.sc_syntax.specs.declared.token.Token.{Token}
 use Rattle.sc_syntax.specs.declared.token.TokenSort.{TokenSort}
 use Rattle.sc_syntax.specs.declared.token.TokenSort.TheVariants as sort
-use Rattle.sc_syntax.specs.Bytes.{is_word}
 use Rattle.sc_syntax.specs.Pieces.{IsNext, IsReadAs}
 use Rattle.sc_syntax.specs.Spaces.{is_blank}
 use Rattle.sc_syntax.specs.TokenLists.{text_of}
@@ -119,7 +119,7 @@ abbrev pub word_start : List ℕ → ℕ
 word_start piece = 1 + prefix_len is_blank (drop 1 piece)
 
 abbrev pub word_end : List ℕ → ℕ
-word_end piece = word_start piece + prefix_len is_word (drop (word_start piece) piece)
+word_end piece = word_start piece + prefix_len continues_name (drop (word_start piece) piece)
 
 abbrev pub directive_word : List ℕ → List ℕ
 directive_word piece = slice_range piece (word_start piece) (word_end piece)

@@ -1,6 +1,7 @@
 -- The kind of an expression: `int` or `double`, for a map of names to kinds. It is that of the tree without its
 -- addresses, so that alike expressions have one kind.
 use Rattle.std.specs.Prelude.{ℕ, ◌≡◌, List, Option, Some, None}
+pub use Rattle.sc_base.specs.Options.{◌>>=◌}
 use Rattle.sc_syntax.specs.declared.kind.Kind.{Kind}
 use Rattle.sc_syntax.specs.declared.kind.Kind.TheVariants.{Number}
 use Rattle.sc_syntax.specs.declared.tree.BinOp.{BinOp}
@@ -21,11 +22,6 @@ Kinds = List ℕ → Option Kind
 abbrev pub number_kind : Option Kind → Option NumSort
 number_kind (Some (Number sort)) = Some sort
 number_kind _ = None
-
-infixl 10 ◌>>=◌
-abbrev pub ◌>>=◌ : {A B : Type 0} → Option A → (A → Option B) → Option B
-Some x >>= f = f x
-None >>= f = None
 
 -- of two operands, a double makes the other one a double
 abbrev pub wider : NumSort → NumSort → NumSort

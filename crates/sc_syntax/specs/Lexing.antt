@@ -10,7 +10,8 @@ use Rattle.sc_syntax.specs.declared.token.Token.{Token}
 use Rattle.sc_syntax.specs.Directives.{Names, no_names, IsScanned, Directs, placed}
 use Rattle.sc_syntax.specs.Pieces.{IsNext, IsStuck}
 use Rattle.sc_syntax.specs.Spaces.{line_so_far, begins_line}
-use Rattle.sc_syntax.specs.TokenLists.{most_tokens, AreRead}
+use Rattle.sc_base.specs.Limits.{most_tokens}
+use Rattle.sc_syntax.specs.TokenLists.{AreRead}
 
 -- The place behind some bytes. Its line is one more than their line feeds, its column one more than the bytes
 -- behind the last line feed.

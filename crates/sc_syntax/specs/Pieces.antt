@@ -4,14 +4,14 @@ use Rattle.std.specs.List.{list_all}
 use Rattle.std.specs.Str.Parse.{IsNumeral, digits_value}
 use Rattle.sc_base.specs.Decimals.{IsDecimal}
 use Rattle.sc_base.specs.GateNames.{gate_text}
+use Rattle.sc_base.specs.NameTexts.{continues_name, IsNameText}
 use Rattle.sc_syntax.specs.declared.piece.PieceKind.{PieceKind}
 use Rattle.sc_syntax.specs.declared.piece.PieceKind.TheVariants.{Space, LineComment, BlockComment, OpenComment, Directive, Word, Number, Sign}
 use Rattle.sc_syntax.specs.declared.token.Mark.{Mark}
 use Rattle.sc_syntax.specs.declared.token.TokenSort.{TokenSort}
 use Rattle.sc_syntax.specs.declared.token.TokenSort.TheVariants as sort
-use Rattle.sc_syntax.specs.Bytes.{is_digit, is_word}
+use Rattle.sc_syntax.specs.Bytes.{is_digit}
 use Rattle.sc_syntax.specs.Marks.{mark_text}
-use Rattle.sc_syntax.specs.Names.{IsWordText}
 use Rattle.sc_syntax.specs.Reserved.{word_text, IsReserved}
 use Rattle.sc_syntax.specs.Spaces.{is_white, is_inline}
 
@@ -36,7 +36,7 @@ begins_number (c ∷ cs) = is_digit c || (c == 46 && begins_digit cs)
 
 -- what may follow in a number: whatever may follow in a name, and a point
 abbrev pub is_number : ℕ → Bool
-is_number c = is_word c || c == 46
+is_number c = continues_name c || c == 46
 
 -- the beginning of a number, and then letters, digits, `_` and points
 abbrev pub IsNumberText : List ℕ → Type 0
@@ -50,7 +50,7 @@ IsPiece fresh LineComment piece = (text : List ℕ) × (codes "//" ++ text ≡ p
 IsPiece fresh BlockComment piece = (text : List ℕ) × (codes "/*" ++ text ++ codes "*/" ≡ piece) × HasNoEnd (text ++ codes "*")
 IsPiece fresh OpenComment piece = (text : List ℕ) × (codes "/*" ++ text ≡ piece) × HasNoEnd text
 IsPiece fresh Directive piece = (fresh ≡ true) × ((line : List ℕ) × (codes "#" ++ line ≡ piece) × (list_all is_inline line ≡ true))
-IsPiece fresh Word piece = IsWordText piece
+IsPiece fresh Word piece = IsNameText piece
 IsPiece fresh Number piece = IsNumberText piece
 IsPiece fresh Sign piece = (m : Mark) × (mark_text m ≡ piece)
 

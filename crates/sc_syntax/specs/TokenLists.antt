@@ -1,14 +1,11 @@
 -- Lists of tokens that were read from a source.
 use Rattle.std.specs.Prelude.{ℕ, ◌≤◌, List, length, slice_range, All}
+use Rattle.sc_base.specs.Limits.{most_tokens}
 use Rattle.sc_syntax.specs.declared.token.Token.{Token}
 use Rattle.sc_syntax.specs.declared.token.TokenSort.{TokenSort}
 use Rattle.sc_syntax.specs.declared.token.TokenSort.TheVariants.{Word, Gate, Name, Int, Decimal, Mark}
 use Rattle.sc_syntax.specs.Names.{IsName}
 use Rattle.sc_syntax.specs.Written.{IsWritten}
-
--- how many tokens a source may have
-abbrev pub most_tokens : ℕ
-most_tokens = 4194304
 
 -- the slice of the source that the token was read from
 abbrev pub text_of : List ℕ → Token → List ℕ

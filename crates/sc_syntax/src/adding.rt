@@ -2,14 +2,12 @@
 ghost use Rattle.std.specs.Prelude.{◌≡◌, ◌≢◌, ◌≤◌, ◌<◌, ◌+◌, ◌^◌, ◌++◌, ◌∷◌, [], length, map, OnOk, IfOk, IfErr, true, false};
 ghost use Rattle.sc_syntax.specs.Cuts.{IsAddable, IsNotAdded, tokens_of};
 ghost use Rattle.sc_syntax.specs.Directives.{placed};
-ghost use Rattle.sc_syntax.specs.TokenLists.{most_tokens};
+ghost use Rattle.sc_base.specs.Limits.{most_tokens};
 
 use crate::fault::LexFault;
 use crate::reading::Reading;
 use crate::token::{Token, Tokens};
-use sc_base::{Memory, Place};
-
-const MOST_TOKENS: usize = 4_194_304;
+use sc_base::{MOST_TOKENS, Memory, Place};
 
 /// Adds a token.
 fn add_token(tokens: &mut Tokens, token: Token) -> Result<(), LexFault>

@@ -1,8 +1,10 @@
 //! Classes of bytes.
 ghost use Rattle.std.specs.Prelude.{◌≡◌, ◌≤◌, length, drop, slice_range};
-ghost use Rattle.sc_syntax.specs.Bytes.{is_digit, is_letter, is_word};
+ghost use Rattle.sc_syntax.specs.Bytes.{is_digit};
 ghost use Rattle.sc_syntax.specs.Pieces.{begins_number, is_number};
 ghost use Rattle.sc_syntax.specs.Spaces.{begins_line, is_blank, is_inline, is_white};
+
+use sc_base::continues_name;
 
 pub(crate) fn is_white(c: u8) -> bool
     ensures { result ≡ is_white c }
@@ -22,28 +24,16 @@ pub(crate) fn is_inline(c: u8) -> bool
     c != b'\n'
 }
 
-pub(crate) fn is_letter(c: u8) -> bool
-    ensures { result ≡ is_letter c }
-{
-    (b'a' <= c && c <= b'z') || (b'A' <= c && c <= b'Z') || c == b'_'
-}
-
 pub(crate) fn is_digit(c: u8) -> bool
     ensures { result ≡ is_digit c }
 {
     b'0' <= c && c <= b'9'
 }
 
-pub(crate) fn is_word(c: u8) -> bool
-    ensures { result ≡ is_word c }
-{
-    is_letter(c) || is_digit(c)
-}
-
 pub(crate) fn is_number(c: u8) -> bool
     ensures { result ≡ is_number c }
 {
-    is_word(c) || c == b'.'
+    continues_name(c) || c == b'.'
 }
 
 /// Only spaces and tabs stand on the line so far.

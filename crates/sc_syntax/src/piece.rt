@@ -6,10 +6,9 @@ ghost use Rattle.sc_syntax.specs.Marks.{mark_text};
 ghost use Rattle.sc_syntax.specs.Pieces.{IsNext, IsStuck, HasNoEnd};
 ghost use Rattle.sc_syntax.specs.declared.token.Mark.{Mark as Marks};
 
-use crate::bytes::{
-    begins_number, is_blank, is_inline, is_letter, is_number, is_white, is_word, rest_from,
-};
+use crate::bytes::{begins_number, is_blank, is_inline, is_number, is_white, rest_from};
 use crate::token::Mark;
+use sc_base::{begins_name, continues_name};
 
 /// What a piece of a source is.
 #[derive(Clone, Copy, Debug, PartialEq, Eq)]
@@ -57,7 +56,7 @@ fn is_in(class: Class, c: u8) -> bool
         Class::White => is_white(c),
         Class::Blank => is_blank(c),
         Class::Line => is_inline(c),
-        Class::Word => is_word(c),
+        Class::Word => continues_name(c),
         Class::Number => is_number(c),
     }
 }
@@ -211,7 +210,7 @@ pub(crate) fn next_piece(fresh: bool, text: &[u8]) -> Option<Piece>
     if is_white(first) {
         return Some(run(PieceKind::Space, Class::White, text, 1));
     }
-    if is_letter(first) {
+    if begins_name(first) {
         return Some(run(PieceKind::Word, Class::Word, text, 1));
     }
     if begins_number(text) {

@@ -4,9 +4,11 @@ ghost use Rattle.std.specs.Str.Parse.{digits_value};
 ghost use Rattle.sc_syntax.specs.Cuts.{IsReading};
 ghost use Rattle.sc_syntax.specs.Marks.{mark_text};
 ghost use Rattle.sc_syntax.specs.Pieces.{IsIntText, IsNumberSort, IsWordSort};
+ghost use Rattle.sc_syntax.specs.Reserved.{word_text};
 ghost use Rattle.sc_syntax.specs.Rows.{row_of};
 ghost use Rattle.sc_syntax.specs.declared.token.Mark.{Mark as Marks};
 ghost use Rattle.sc_syntax.specs.declared.token.TokenSort.{TokenSort as OneSort};
+ghost use Rattle.sc_syntax.specs.declared.token.Word.{Word as Words};
 
 use crate::piece::{PieceKind, mark_of, mark_of_two};
 use crate::token::{Mark, TokenSort, Word};
@@ -22,41 +24,23 @@ pub(crate) enum Reading {
     Unread,
 }
 
-const RESERVED: [(&[u8], TokenSort); 31] = [
-    (b"module", TokenSort::Word(Word::Module)),
-    (b"void", TokenSort::Word(Word::Void)),
-    (b"int", TokenSort::Word(Word::Int)),
-    (b"double", TokenSort::Word(Word::Double)),
-    (b"float", TokenSort::Word(Word::Float)),
-    (b"qbit", TokenSort::Word(Word::Qbit)),
-    (b"cbit", TokenSort::Word(Word::Cbit)),
-    (b"if", TokenSort::Word(Word::If)),
-    (b"else", TokenSort::Word(Word::Else)),
-    (b"while", TokenSort::Word(Word::While)),
-    (b"for", TokenSort::Word(Word::For)),
-    (b"return", TokenSort::Word(Word::Return)),
-    (b"classical", TokenSort::Word(Word::Classical)),
-    (b"X", TokenSort::Gate(GateName::X)),
-    (b"Y", TokenSort::Gate(GateName::Y)),
-    (b"Z", TokenSort::Gate(GateName::Z)),
-    (b"H", TokenSort::Gate(GateName::H)),
-    (b"S", TokenSort::Gate(GateName::S)),
-    (b"T", TokenSort::Gate(GateName::T)),
-    (b"Sdag", TokenSort::Gate(GateName::Sdag)),
-    (b"Tdag", TokenSort::Gate(GateName::Tdag)),
-    (b"CNOT", TokenSort::Gate(GateName::Cnot)),
-    (b"Toffoli", TokenSort::Gate(GateName::Toffoli)),
-    (b"Fredkin", TokenSort::Gate(GateName::Fredkin)),
-    (b"Rx", TokenSort::Gate(GateName::Rx)),
-    (b"Ry", TokenSort::Gate(GateName::Ry)),
-    (b"Rz", TokenSort::Gate(GateName::Rz)),
-    (b"PrepX", TokenSort::Gate(GateName::PrepX)),
-    (b"PrepZ", TokenSort::Gate(GateName::PrepZ)),
-    (b"MeasX", TokenSort::Gate(GateName::MeasX)),
-    (b"MeasZ", TokenSort::Gate(GateName::MeasZ)),
+const WORDS: [(&[u8], Word); 13] = [
+    (b"module", Word::Module),
+    (b"void", Word::Void),
+    (b"int", Word::Int),
+    (b"double", Word::Double),
+    (b"float", Word::Float),
+    (b"qbit", Word::Qbit),
+    (b"cbit", Word::Cbit),
+    (b"if", Word::If),
+    (b"else", Word::Else),
+    (b"while", Word::While),
+    (b"for", Word::For),
+    (b"return", Word::Return),
+    (b"classical", Word::Classical),
 ];
 
-fn row_of(mut table: &[(&[u8], TokenSort)], text: &[u8]) -> Option<TokenSort>
+fn row_of(mut table: &[(&[u8], Word)], text: &[u8]) -> Option<Word>
     ensures { result ≡ row_of (map (λ row. (row.0.now, row.1)) table.entry.now) text.now }
 {
     while let [row, rest @ ..] = table {
@@ -68,11 +52,24 @@ fn row_of(mut table: &[(&[u8], TokenSort)], text: &[u8]) -> Option<TokenSort>
     None
 }
 
+/// The reserved word, other than a gate's name, that a text is.
+fn word_of(text: &[u8]) -> Option<Word>
+    ensures { MatchOption result ((w : Words) → word_text w ≢ text.now) (λ w. word_text w ≡ text.now) }
+{
+    row_of(&WORDS, text)
+}
+
 /// The sort of a word: reserved, or a name.
 fn word_sort(text: &[u8]) -> TokenSort
     ensures { IsWordSort text.now result }
 {
-    row_of(&RESERVED, text).unwrap_or(TokenSort::Name)
+    if let Some(word) = word_of(text) {
+        return TokenSort::Word(word);
+    }
+    match GateName::from_text(text) {
+        Some(gate) => TokenSort::Gate(gate),
+        None => TokenSort::Name,
+    }
 }
 
 /// The value of digits alone, if it is below 2^63.

@@ -126,10 +126,8 @@ impl Tokens {
         ensures ok { OnOk result (self.new ≡ self.old ++ token ∷ []) }
         ensures err { OnErr result (self.new ≡ self.old) }
     {
-        match self.items.push(token) {
-            Ok(()) => Ok(()),
-            Err(_) => Err(Memory),
-        }
+        self.items.push(token)?;
+        Ok(())
     }
 
     pub(crate) fn len(&self) -> usize

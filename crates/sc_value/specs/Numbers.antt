@@ -1,5 +1,6 @@
 -- Operations on numbers: computed without a bound, and followed by the range test.
 use Rattle.std.specs.Prelude.{ℕ, zero, ◌/◌, ◌^◌, Bool, not, ◌&&◌, nat_lt, if◌then◌else◌, Option, Some, ℤ, pos, negsuc, ◌+ℤ◌, ◌-ℤ◌, ◌*ℤ◌, neg_ℤ, int_lt, int_div, int_rem, Result, Ok, Err}
+pub use Rattle.sc_base.specs.Results.{◌>>=◌}
 use Rattle.sc_base.specs.declared.Place.{Place}
 use Rattle.sc_syntax.specs.declared.BinOp.{BinOp}
 use Rattle.sc_syntax.specs.declared.BinOp.TheVariants as op
@@ -11,12 +12,6 @@ use Rattle.sc_value.specs.declared.Value.{Value}
 use Rattle.sc_value.specs.declared.Value.TheVariants.{Int, Double}
 use Rattle.sc_value.specs.declared.EvalFault.{EvalFault}
 use Rattle.sc_value.specs.declared.EvalFault.TheVariants.{Overflow, DivZero}
-
--- what follows a result, which a fault skips
-infixl 10 ◌>>=◌
-abbrev pub ◌>>=◌ : {A B : Type 0} → Result A EvalFault → (A → Result B EvalFault) → Result B EvalFault
-Ok v >>= next = next v
-Err fault >>= next = Err fault
 
 -- from -2^63 to 2^63 - 1
 abbrev pub fits : ℤ → Bool

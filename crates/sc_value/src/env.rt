@@ -49,10 +49,8 @@ impl Env {
         ensures ok { OnOk result (self.new ≡ map.empty ∷ self.old) }
         ensures err { OnErr result (self.new ≡ self.old) }
     {
-        match self.entered.push(Scope::new(self.alloc)) {
-            Ok(()) => Ok(()),
-            Err(_) => Err(Memory),
-        }
+        self.entered.push(Scope::new(self.alloc))?;
+        Ok(())
     }
 
     /// Drops the innermost scope with its names.

@@ -5,8 +5,8 @@ use Rattle.sc_syntax.proofs.piece.next_piece.Goals as goal
 pub returns-then-is_white-clause-next : goal.returns-then-is_white-clause-next
 returns-then-is_white-clause-next c = rw c.run.ensures.kind (space_next _ c.args.text.now _ c.requires (sym c.is_white.ensures ∙ c.if-is_white.true) c.run.ensures.len)
 
-pub returns-then-is_letter-clause-next : goal.returns-then-is_letter-clause-next
-returns-then-is_letter-clause-next c = rw c.run-then-is_letter.ensures.kind (word_next _ c.args.text.now _ c.requires (sym c.is_letter.ensures ∙ c.if-is_letter.true) c.run-then-is_letter.ensures.len)
+pub returns-then-begins_name-clause-next : goal.returns-then-begins_name-clause-next
+returns-then-begins_name-clause-next c = rw c.run-then-begins_name.ensures.kind (word_next _ c.args.text.now _ c.requires (sym c.begins_name.ensures ∙ c.if-begins_name.true) c.run-then-begins_name.ensures.len)
 
 pub returns-then-begins_number-clause-next : goal.returns-then-begins_number-clause-next
 returns-then-begins_number-clause-next c =
