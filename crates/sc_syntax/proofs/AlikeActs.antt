@@ -1,5 +1,5 @@
 -- Trees of statements by the tree without addresses that they are of.
-use Rattle.std.proofs.Common.{◌≡◌, ℕ, List, Option, refl}
+use Rattle.std.proofs.Common.{◌≡◌, List, Option, refl}
 use Rattle.std.specs.Prelude.{map, option_map}
 use mathlib.Core.Former.{Count, none_left}
 use Rattle.sc_base.specs.declared.Class.{Class}

@@ -1,11 +1,10 @@
 -- Trees of expressions by the tree without addresses that they are of: what is the same of two trees that are alike.
-use Rattle.std.proofs.Common.{◌≡◌, ℤ, ℕ, List, Option, subst}
+use Rattle.std.proofs.Common.{◌≡◌, ℤ, ℕ, List, subst}
 use mathlib.Core.Former.{Count, none_left}
 use Rattle.sc_base.specs.declared.Fixed.{Fixed}
 use Rattle.sc_base.specs.declared.Place.{Place}
 use Rattle.sc_syntax.specs.declared.tree.BinOp.{BinOp}
 use Rattle.sc_syntax.specs.declared.tree.UnOp.{UnOp}
-use Rattle.sc_syntax.specs.declared.tree.NumSort.{NumSort}
 use Rattle.sc_syntax.specs.declared.tree.Expr.{Expr}
 use Rattle.sc_syntax.specs.declared.tree.Node as node
 use Rattle.sc_syntax.specs.declared.tree.Node.{Node, Index', Paren', Unary', Chain', Pick', Row_of-Link, end_of-Link, more_of-Link}

@@ -1,5 +1,5 @@
 -- Trees of word expressions by the tree without addresses that they are of.
-use Rattle.std.proofs.Common.{◌≡◌, ℤ, ℕ, List}
+use Rattle.std.proofs.Common.{ℤ, ℕ, List}
 use mathlib.Core.Former.{Count, none_left}
 use Rattle.sc_base.specs.declared.Place.{Place}
 use Rattle.sc_syntax.specs.declared.tree.WordOp.{WordOp}

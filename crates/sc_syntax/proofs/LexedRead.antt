@@ -1,5 +1,5 @@
 -- Tokens of a source are read from it: each fits its slice.
-use Rattle.std.proofs.Common.{ℕ, ◌≡◌, refl, sym, ap, ◌∙◌, subst, ◌+◌, ◌-◌, ◌≤◌, false, List, [], ◌∷◌, ◌++◌, length, take, drop, slice_range, map, Option, Some, None, Ok, MatchOption, inl, inr, append_assoc, arith}
+use Rattle.std.proofs.Common.{ℕ, ◌≡◌, refl, sym, ap, ◌∙◌, subst, ◌+◌, ◌-◌, false, List, [], ◌∷◌, ◌++◌, length, take, drop, slice_range, map, Option, Some, None, Ok, MatchOption, inl, inr, append_assoc, arith}
 use Rattle.std.proofs.Math.Seq.{take-append_seam, drop-append_seam}
 use Rattle.std.proofs.lemmas.List.{take-append-drop, length-append}
 use Rattle.std.proofs.lemmas.List.Elements.{All-nil, All-cons, All-append, All-map}
@@ -12,12 +12,11 @@ use Rattle.sc_syntax.specs.declared.piece.PieceKind.TheVariants.{Space, LineComm
 use Rattle.sc_syntax.specs.declared.token.Token.{Token}
 use Rattle.sc_syntax.specs.declared.token.TokenSort.{TokenSort}
 use Rattle.sc_syntax.specs.Cuts.{AreValues}
-use Rattle.sc_syntax.specs.Directives.{Names, no_names, IsScanned, Scans, IsDefinition, Defines, Directs, names_behind, placed, token_at, word_end}
+use Rattle.sc_syntax.specs.Directives.{Names, no_names, IsScanned, Scans, IsDefinition, Directs, names_behind, placed, token_at, word_end}
 use Rattle.sc_syntax.specs.Directives as directive
 use Rattle.sc_syntax.specs.Lexing.{place_after, Gives, Reads, at_end, after_piece, at_too_many, at_fault, at_stuck, LexedAreRead}
 use Rattle.sc_syntax.specs.Pieces.{IsPiece, IsReadAs}
 use Rattle.sc_syntax.specs.Spaces.{begins_line}
-use Rattle.sc_base.specs.Limits.{most_tokens}
 use Rattle.sc_syntax.specs.TokenLists.{text_of, FitsText, IsRead, AreRead}
 use Rattle.sc_syntax.proofs.Definitions.{values_behind}
 use Rattle.sc_syntax.proofs.Readings.{fits}

@@ -1,5 +1,5 @@
 -- A chain or a block without addresses is that of the list of its parts.
-use Rattle.std.proofs.Common.{◌≡◌, refl, ap, List, [], ◌∷◌}
+use Rattle.std.proofs.Common.{◌≡◌, refl, ap}
 use mathlib.Core.Former.{Count}
 use Rattle.std.specs.declared.alloc.Global.{Global}
 use Rattle.std.specs.declared.boxed.Box.{Box}

@@ -1,7 +1,6 @@
 -- Kinds and values depend on the names in an expression alone.
 use Rattle.std.proofs.Common.{◌≡◌, refl, sym, ap, ◌∙◌, ℕ, List, Option, Some, None, inl, inr, if◌then◌else◌}
-use Rattle.std.specs.Prelude.{◌⊎◌, pos}
-use Rattle.std.specs.Option.{option_map, unwrap_or}
+use Rattle.std.specs.Option.{option_map}
 use Rattle.sc_base.specs.declared.Place.{Place}
 use Rattle.sc_syntax.specs.declared.Kind.{Kind}
 use Rattle.sc_syntax.specs.declared.Kind.TheVariants as k
@@ -10,10 +9,9 @@ use Rattle.sc_syntax.specs.Alike.{PureNode, PureLinks, no_links, link}
 use Rattle.sc_syntax.specs.Kind as kind
 use Rattle.sc_syntax.specs.Kind.{Kinds, number_kind, wider, kind_of, kind_of_links, kind_of_operation, kind_of_unary}
 use Rattle.sc_value.specs.declared.Value.{Value}
-use Rattle.sc_value.specs.declared.Value.TheVariants as v
 use Rattle.sc_value.specs.Numbers.{◌>>=◌, is_true, beside, unary}
 use Rattle.sc_value.specs.Expressions.{Values, sort_of, kinds_of, step, value_of, value_of_links, value}
-use Rattle.sc_value.specs.Agreement.{Uses, UsesInLinks, AgreeOn, HasKindOfItsNames, HasValueOfItsNames, AreValuesOf, UsesNumbers, HasKindOfItsValues, HaveOneValue}
+use Rattle.sc_value.specs.Agreement.{Uses, UsesInLinks, HasKindOfItsNames, HasValueOfItsNames, UsesNumbers, HasKindOfItsValues, HaveOneValue}
 
 -- ---- kinds
 

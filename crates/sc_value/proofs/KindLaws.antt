@@ -12,7 +12,7 @@ use Rattle.sc_syntax.specs.declared.NumSort.TheVariants as num
 use Rattle.sc_syntax.specs.declared.Kind.TheVariants.{Number}
 use Rattle.sc_syntax.specs.Alike.{PureNode, PureLinks, PureExpr, no_links, link}
 use Rattle.sc_syntax.specs.Kind as kind
-use Rattle.sc_syntax.specs.Kind.{Kinds, number_kind, wider, kind_of, kind_of_links, kind_of_operation, kind_of_unary}
+use Rattle.sc_syntax.specs.Kind.{number_kind, wider, kind_of, kind_of_links, kind_of_operation, kind_of_unary}
 use Rattle.sc_value.specs.declared.Value.{Value}
 use Rattle.sc_value.specs.declared.Value.TheVariants as v
 use Rattle.sc_value.specs.declared.EvalFault.{EvalFault}
