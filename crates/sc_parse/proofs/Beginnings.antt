@@ -2,7 +2,7 @@
 use Rattle.std.proofs.Common.{◌≡◌, refl, sym, ◌∙◌, subst, ℕ, true, false, List, [], ◌∷◌, Option, Some, None, ◌⊎◌, inl, inr}
 use Rattle.sc_parse.specs.Pieces.{kind, next, ahead}
 use Rattle.sc_parse.specs.Terminals.{fits}
-use Rattle.sc_parse.specs.Form.{Form, one, sub, ◌⨾◌, ◌∣◌, many, nested, unless, Symbol}
+use Rattle.sc_parse.specs.Form.{Form, one, sub, ◌⨾◌, many, nested, unless, Symbol}
 use Rattle.sc_parse.specs.Rules.{rule}
 use Rattle.sc_parse.specs.Phrase.{Marked, bare, Phrase, nothing, one_token, both, left, right, no_more, more, deeper, not_next, whole, Front, nothing_yet, all_of_it, in_first, in_second, in_left, in_right, in_one, in_later, in_deeper, in_rule}
 use Rattle.sc_parse.specs.Runs.{passes, first, begins, Stack}
@@ -10,6 +10,7 @@ use Rattle.sc_parse.specs.declared.terminal.Terminal.{Terminal}
 use Rattle.sc_parse.proofs.Bools.{or_first, or_second, and_both, clash, cond_first, cond_second, not_false}
 use Rattle.sc_parse.proofs.Good.{NextIn, rule-never, rule-starts}
 use Rattle.sc_parse.proofs.Fronts.{FrontOf}
+use Rattle.sc_parse.proofs.Steps.{begins_left, begins_right}
 
 -- the kind of the first token
 abbrev pub head : List Marked → Option Terminal
@@ -22,14 +23,6 @@ begins_first f g (Some h) e = cond_first (passes f (Some h)) (first f h) (first 
 begins_second : (f g : Form) (h : Option Terminal) → passes f h ≡ true → begins g h ≡ true → begins (f ⨾ g) h ≡ true
 begins_second f g None p e = e
 begins_second f g (Some h) p e = cond_second (passes f (Some h)) (first f h) (first g h) p e
-
-begins_left : (f g : Form) (h : Option Terminal) → begins f h ≡ true → begins (f ∣ g) h ≡ true
-begins_left f g None e = e
-begins_left f g (Some h) e = or_first (first f h) _ e
-
-begins_right : (f g : Form) (h : Option Terminal) → begins g h ≡ true → begins (f ∣ g) h ≡ true
-begins_right f g None e = e
-begins_right f g (Some h) e = or_second (first f h) _ e
 
 begins_many : (f : Form) (h : Option Terminal) → begins f h ≡ true → begins (many f) h ≡ true
 begins_many f None e = e

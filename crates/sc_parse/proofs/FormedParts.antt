@@ -1,9 +1,9 @@
--- What parts of a phrase are beside their trees: names are names, and what starts or advances a `for` sets something.
+-- What parts of a phrase are beside their trees: names are names, and what starts or advances a `for` sets something, or declares numbers at its start.
 use Rattle.std.proofs.Common.{◌≡◌, List, [], ◌∷◌}
-use Rattle.sc_syntax.specs.declared.Expr.{Expr}
-use Rattle.sc_syntax.specs.declared.Stmt.{Stmt}
 use Rattle.sc_syntax.specs.declared.TokenSort.TheVariants as sort
-use Rattle.sc_syntax.specs.Formed.{IsSetting}
+use Rattle.sc_syntax.specs.declared.Act.{Act}
+use Rattle.sc_syntax.specs.declared.Act as act
+use Rattle.sc_syntax.specs.Formed.{IsSetting, IsStart}
 use Rattle.sc_parse.specs.declared.expr.Level.{Level}
 use Rattle.sc_parse.specs.declared.expr.Level.TheVariants as level
 use Rattle.sc_parse.specs.declared.word.WordLevel.{WordLevel}
@@ -39,10 +39,14 @@ abbrev IsSettingTree : Tree → Type 0
 IsSettingTree (stmt s) = IsSetting s.act
 IsSettingTree _ = ⊥
 
--- a lone statement sets something
-abbrev IsLoneSetting : List Tree → Type 0
-IsLoneSetting (stmt s ∷ []) = IsSetting s.act
-IsLoneSetting _ = Unit {0}
+abbrev IsStartTree : Tree → Type 0
+IsStartTree (stmt s) = IsStart s.act
+IsStartTree _ = ⊥
+
+-- a lone statement is one that may start a `for`
+abbrev IsLoneStart : List Tree → Type 0
+IsLoneStart (stmt s ∷ []) = IsStart s.act
+IsLoneStart _ = Unit {0}
 
 abbrev Looks : Symbol → List Tree → Tree → Type 0
 Looks symbol.Wire vs v = IsWire v
@@ -51,7 +55,7 @@ Looks symbol.Expr vs v = IsExprTree v
 Looks symbol.Stmt vs v = IsStmtTree v
 Looks symbol.Step vs v = IsStmtTree v
 Looks symbol.Set vs v = IsSettingTree v
-Looks symbol.Start vs v = IsLoneSetting vs → IsSettingTree v
+Looks symbol.Start vs v = IsLoneStart vs → IsStartTree v
 Looks _ vs v = Unit {0}
 
 looks_chain : (l : Level) (vs : List Tree) (v : Tree) → Looks (chain_of l) vs v
@@ -85,15 +89,19 @@ main_parts (one_token {t = t} e) = main_sort t.token.sort t.text e
 
 -- ---- what may start a `for`
 
-lone_num : (v : Tree) (vs : List Tree) → IsNum v → IsLoneSetting (v ∷ vs)
+lone_num : (v : Tree) (vs : List Tree) → IsNum v → IsLoneStart (v ∷ vs)
 lone_num (num n p) vs h = tt
 lone_num _ vs h = absurd h
 
-lone_setting : (v : Tree) → IsSettingTree v → IsLoneSetting (v ∷ [])
-lone_setting (stmt s) h = h
+setting_starts : (a : Act) → IsSetting a → IsStart a
+setting_starts (act.Numbers s l) h = tt
+setting_starts _ h = h
+
+lone_setting : (v : Tree) → IsSettingTree v → IsLoneStart (v ∷ [])
+lone_setting (stmt s) h = setting_starts s.act h
 lone_setting _ h = absurd h
 
-start_parts : {ts rest : List Piece} {vs : List Tree} → Derives (rule symbol.Start) ts rest vs → IsLoneSetting vs
+start_parts : {ts rest : List Piece} {vs : List Tree} → Derives (rule symbol.Start) ts rest vs → IsLoneStart vs
 start_parts (left (both (built d b) q)) = lone_num _ _ (looks b)
 start_parts (right (built d b)) = lone_setting _ (looks b)
 
@@ -109,11 +117,11 @@ TestsFor (token w ∷ vs) = EndsFor vs
 TestsFor _ = Unit {0}
 
 abbrev StartsFor : List Tree → Type 0
-StartsFor (stmt s ∷ token v ∷ vs) = IsSetting s.act × TestsFor vs
+StartsFor (stmt s ∷ token v ∷ vs) = IsStart s.act × TestsFor vs
 StartsFor (token v ∷ vs) = TestsFor vs
 StartsFor _ = Unit {0}
 
--- after two tokens, what may start and advance a `for` sets something
+-- after two tokens, what may start a `for`, and what sets something and advances it
 abbrev pub IsFor : List Tree → Type 0
 IsFor (token t ∷ token u ∷ vs) = StartsFor vs
 IsFor _ = Unit {0}
@@ -138,9 +146,9 @@ starts_expr : (v : Tree) (vs : List Tree) → IsExprTree v → StartsFor (v ∷ 
 starts_expr (expr e) vs h = tt
 starts_expr _ vs h = absurd h
 
-starts_setting : (v : Tree) (t : Piece) (vs : List Tree) → IsSettingTree v → TestsFor vs → StartsFor (v ∷ token t ∷ vs)
-starts_setting (stmt s) t vs h later = (h, later)
-starts_setting _ t vs h later = absurd h
+starts_for : (v : Tree) (t : Piece) (vs : List Tree) → IsStartTree v → TestsFor vs → StartsFor (v ∷ token t ∷ vs)
+starts_for (stmt s) t vs h later = (h, later)
+starts_for _ t vs h later = absurd h
 
 tests_expr : (v : Tree) (t : Piece) (vs : List Tree) → IsExprTree v → EndsFor vs → TestsFor (v ∷ token t ∷ vs)
 tests_expr (expr e) t vs h later = later
@@ -160,7 +168,7 @@ for_test (both (left (built d b)) (both (one_token e) q)) = tests_expr _ _ _ (lo
 for_test (both (right nothing) (both (one_token e) q)) = for_end q
 
 for_parts : {ts rest : List Piece} {vs : List Tree} → Derives for_loop ts rest vs → IsFor vs
-for_parts (both (one_token e) (both (one_token f) (both (left (built d b)) (both (one_token g) q)))) = starts_setting _ _ _ (looks b (start_parts d)) (for_test q)
+for_parts (both (one_token e) (both (one_token f) (both (left (built d b)) (both (one_token g) q)))) = starts_for _ _ _ (looks b (start_parts d)) (for_test q)
 for_parts (both (one_token e) (both (one_token f) (both (right nothing) (both (one_token g) q)))) = for_test q
 
 block_parts : {ts rest : List Piece} {vs : List Tree} → Derives block ts rest vs → IsFor vs

@@ -6,7 +6,7 @@ use Rattle.sc_syntax.specs.Formed.{IsFormedExpr, IsFormedDecl, IsFormedInit, IsF
 use Rattle.sc_syntax.specs.FormedWords.{max_items, IsFormedWordParam, IsFormedBind, IsFormedWordFn}
 use Rattle.sc_syntax.proofs.FormedRows.{block_is_formed}
 use Rattle.sc_parse.specs.Form.{Symbol}
-use Rattle.sc_parse.specs.Trees.{Tree, token, name, width, expr, decl, init, stmt, param, word_expr, word_param, bind, each}
+use Rattle.sc_parse.specs.Trees.{Tree, name, width, expr, decl, init, stmt, param, word_expr, word_param, bind, each}
 use Rattle.sc_parse.specs.Derives.{Builds, name_is, main_name_is, width_is, wire_is, num_is, int_is, decimal_is, named_is, index_is, paren_is, unary_is, prim_is, operand_is, chain_is, or_is, pick_is, decl_is, init_is, meas_is, set_is, stepped_is, step_is, measured_is, setting_is, call_is, gate_is, start_numbers, start_set, wires_is, numbers_is, done_is, empty_is, block_is, if_is, if_else_is, while_is, for_is, one_is, pointer_is, array_is, int_param_is, double_param_is, module_is, word_int_is, word_name_is, word_paren_is, ext_is, low_is, not_is, word_prim_is, word_operand_is, word_chain_is, word_sum_is, shift_is, word_or_is, word_pick_is, single_is, word_param_is, bind_is, words_is}
 use Rattle.sc_parse.proofs.FormedTrees.{AreFormedTrees, weights, IsMade, AreHeld, kept_held, formed_front, formed_rest, weights-append, list_formed, option_formed, binds_weigh}
 use Rattle.sc_parse.proofs.FormedParts.{Known}

@@ -1,5 +1,5 @@
 -- The tree of tokens that were read from a source is formed.
-use Rattle.std.proofs.Common.{◌≡◌, refl, ap, ℕ, suc, ◌+◌, ◌≤◌, List, [], ◌∷◌, ◌++◌, length, arith}
+use Rattle.std.proofs.Common.{ℕ, ◌+◌, ◌≤◌, List, [], ◌∷◌, ◌++◌, length, arith}
 use Rattle.std.proofs.lemmas.List.Elements.{All-head, All-tail}
 use Rattle.std.specs.List.{All}
 use Rattle.sc_syntax.specs.declared.Token.{Token}
@@ -9,12 +9,13 @@ use Rattle.sc_syntax.specs.FormedWords.{max_items}
 use Rattle.sc_syntax.specs.TokenLists.{FitsText, IsRead, AreRead}
 use Rattle.sc_parse.specs.Form.{Form}
 use Rattle.sc_parse.specs.Pieces.{Piece, pieces}
-use Rattle.sc_parse.specs.Trees.{Tree, part, each}
+use Rattle.sc_parse.specs.Trees.{Tree, part}
 use Rattle.sc_parse.specs.Grammar.{IsTreeOf}
 use Rattle.sc_parse.specs.Derives.{Derives, nothing, one_token, both, left, right, no_more, more, deeper, not_next, built}
 use Rattle.sc_parse.proofs.FormedTrees.{AreFormedTrees, weights, formed-append, weights-append, list_formed}
 use Rattle.sc_parse.proofs.FormedParts.{known}
 use Rattle.sc_parse.proofs.FormedPhrases.{builds_formed}
+use Rattle.sc_parse.proofs.Steps.{length-pieces}
 
 abbrev FitTexts : List Piece → Type 0
 FitTexts [] = Unit {0}
@@ -51,10 +52,6 @@ derives_formed (built {s = s} p b) fit small =
 texts_fit : (text : List ℕ) (tokens : List Token) → All (IsRead text) tokens → FitTexts (pieces text tokens)
 texts_fit text [] all = tt
 texts_fit text (t ∷ ts) all = ((All-head (IsRead text) t ts all).fits, texts_fit text ts (All-tail (IsRead text) t ts all))
-
-length-pieces : (text : List ℕ) (tokens : List Token) → length (pieces text tokens) ≡ length tokens
-length-pieces text [] = refl
-length-pieces text (t ∷ ts) = ap suc (length-pieces text ts)
 
 pub source_formed : (text : List ℕ) (tokens : List Token) (tree : Source) → AreRead text tokens → IsTreeOf text tokens tree → IsFormedSource tree
 source_formed text tokens tree read derives =

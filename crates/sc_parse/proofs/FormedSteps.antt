@@ -1,5 +1,5 @@
 -- What single steps of building a tree need: texts and numbers of tokens, marks that set, and gates that measure.
-use Rattle.std.proofs.Common.{◌≡◌, subst, ℕ, ℤ, pos, ◌≤ℤ◌, List, [], ◌∷◌, ◌++◌, Option, Some, None, arith}
+use Rattle.std.proofs.Common.{◌≡◌, subst, ℕ, ℤ, pos, List, [], ◌∷◌, ◌++◌, Option, Some, None, arith}
 use Rattle.std.proofs.lemmas.Int.{ints}
 use Rattle.std.specs.declared.alloc.Global.{Global}
 use Rattle.std.specs.declared.boxed.Box.{Box}
@@ -22,6 +22,7 @@ use Rattle.sc_syntax.specs.Names.{IsName}
 use Rattle.sc_syntax.specs.TokenLists.{FitsText}
 use Rattle.sc_syntax.specs.Formed.{IsFormedExpr, IsFormedStmt, HasItsValue, IsMeasuring}
 use Rattle.sc_parse.specs.declared.terminal.Terminal.TheVariants.{Measuring}
+use Rattle.sc_syntax.specs.Written.{IsWritten}
 use Rattle.sc_parse.specs.Terminals.{gate_kind}
 use Rattle.sc_parse.specs.Pieces.{Piece}
 use Rattle.sc_parse.specs.Trees.{Tree, token, name, expr, stmt, meas, if_there, set_of, step_of}
@@ -34,15 +35,15 @@ use Rattle.sc_parse.proofs.FormedParts.{IsFor}
 pub name_fits : (s : TokenSort) (text : List ℕ) → s ≡ sort.Name → FitsText s text → IsName text
 name_fits s text e h = subst (λ k. FitsText k text) e h
 
-pub int_fits : (s : TokenSort) (text : List ℕ) (n : ℤ) → s ≡ sort.Int n → FitsText s text → pos 0 ≤ℤ n
+pub int_fits : (s : TokenSort) (text : List ℕ) (n : ℤ) → s ≡ sort.Int n → FitsText s text → IsWritten n
 int_fits s text n e h = subst (λ k. FitsText k text) e h
 
-pub decimal_fits : (s : TokenSort) (text : List ℕ) (d : Fixed) → s ≡ sort.Decimal d → FitsText s text → pos 0 ≤ℤ d.0
+pub decimal_fits : (s : TokenSort) (text : List ℕ) (d : Fixed) → s ≡ sort.Decimal d → FitsText s text → IsWritten d.0
 decimal_fits s text d e h = subst (λ k. FitsText k text) e h
 
 -- a width that is not written
-pub one_fits : pos 0 ≤ℤ pos 1
-one_fits = omega (arith, ints)
+pub one_fits : IsWritten (pos 1)
+one_fits = (omega (arith, ints), omega (arith, ints))
 
 -- ---- settings
 

@@ -9,19 +9,11 @@ use Rattle.sc_parse.specs.declared.expr.Level.{Level}
 use Rattle.sc_parse.specs.declared.expr.Level.TheVariants as level
 use Rattle.sc_parse.specs.declared.word.WordLevel.{WordLevel}
 use Rattle.sc_parse.specs.declared.word.WordLevel.TheVariants as wlevel
+use Rattle.sc_parse.specs.Levels.{looseness}
 use Rattle.sc_parse.specs.Rules.{marks, word_marks}
 use Rattle.sc_parse.specs.Trees.{binary_of, word_binary_of, level_of, word_level_of}
 
--- how loosely a level's operators bind
-abbrev pub looseness : Level → ℕ
-looseness level.Or = 6
-looseness level.And = 5
-looseness level.Equal = 4
-looseness level.Order = 3
-looseness level.Shift = 2
-looseness level.Sum = 1
-looseness level.Product = 0
-
+-- how loosely a word level's operators bind
 abbrev pub word_looseness : WordLevel → ℕ
 word_looseness wlevel.Or = 7
 word_looseness wlevel.Xor = 6
@@ -48,7 +40,7 @@ level_there level.Shift = refl
 level_there level.Sum = refl
 level_there level.Product = refl
 
-same_level : (a b : Level) → nat_eq (looseness a) (looseness b) ≡ true → a ≡ b
+pub same_level : (a b : Level) → nat_eq (looseness a) (looseness b) ≡ true → a ≡ b
 same_level a b e = let i = ap (λ (n : ℕ). item n levels) (eqb-true _ _ e) in let x = level_there a in let y = level_there b in cc
 
 abbrev word_levels : List WordLevel

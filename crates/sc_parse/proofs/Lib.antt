@@ -32,3 +32,4 @@ pub mod Decode
 pub mod Decoded
 pub mod BuiltAs
 pub mod OneTree
+pub mod Texts

@@ -8,5 +8,7 @@ pub mod Reads
 pub mod Input
 pub mod Trees
 pub mod Derives
+pub mod Levels
 pub mod Grammar
 pub mod Faults
+pub mod Texts

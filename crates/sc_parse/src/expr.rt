@@ -1,8 +1,8 @@
 //! Expressions.
-ghost use Rattle.std.specs.Prelude.{◌≡◌, ◌≤◌, [], ◌∷◌, drop, length, MatchResult};
+ghost use Rattle.std.specs.Prelude.{◌≡◌, ◌≤◌, ◌<◌, [], ◌∷◌, drop, length, true, Some, MatchOption, MatchResult};
 
 use crate::make;
-use crate::operators::{UNARY, binary, level_marks};
+use crate::operators::{self, UNARY, binary, level_marks};
 use crate::reader::{Fault, Reader};
 use crate::terminal::Terminal;
 use sc_base::Place;
@@ -21,9 +21,11 @@ pub enum Level {
 }
 
 impl Reader<'_> {
+    ghost use Rattle.sc_parse.specs.declared.expr.Level.{Level};
     ghost use Rattle.sc_parse.specs.Form as symbol;
-    ghost use Rattle.sc_parse.specs.Form.{sub};
+    ghost use Rattle.sc_parse.specs.Form.{many, sub, ◌⨾◌};
     ghost use Rattle.sc_parse.specs.Input.{input};
+    ghost use Rattle.sc_parse.specs.Levels.{IsQuiet, ReadsChain, ReadsLinks, ReadsOperand, level_ahead, looseness};
     ghost use Rattle.sc_parse.specs.Pieces.{next};
     ghost use Rattle.sc_parse.specs.Reads.{Fails, Keeps, Reads, TakesBinary};
     ghost use Rattle.sc_parse.specs.Rules.{chain_of, index as index_form, operand, operator};
@@ -72,67 +74,73 @@ impl Reader<'_> {
         Ok(made)
     }
 
+    /// The level of the operator that is the next token, if it binds no looser than those of `limit`.
+    fn level_at(&self, at: usize, limit: Level) -> Option<Level>
+        ensures { MatchOption result
+            ((l : Level) → level_ahead (next (drop at (input self.now))) ≡ Some l → looseness limit < looseness l)
+            (λ l. (level_ahead (next (drop at (input self.now))) ≡ Some l) × (looseness l ≤ looseness limit)) }
+    {
+        match self.kind_at(at) {
+            Some(kind) => operators::within(operators::level(kind), limit),
+            None => None,
+        }
+    }
+
     /// What stands between the operators of the level.
     #[cycle(expr)]
     fn operand(&self, at: &mut usize, depth: u32, level: Level) -> Result<Expr, Fault>
         requires within { at.old ≤ length (input self.now) }
         requires shallow { depth ≤ 129 }
         ensures { MatchResult result
-            (λ e. Reads (operand level) depth (input self.now) at.old at.new (tree e ∷ []))
+            (λ e. ReadsOperand level depth (input self.now) at.old at.new (tree e))
             (Fails (operand level) depth (input self.now) at.old) }
     {
-        match level {
-            Level::Or => {
-                let made = self.chain(at, depth, Level::And)?;
+        match operators::tighter(level) {
+            Some(tighter) => {
+                let made = self.chain(at, depth, tighter)?;
                 Ok(made)
             }
-            Level::And => {
-                let made = self.chain(at, depth, Level::Equal)?;
-                Ok(made)
-            }
-            Level::Equal => {
-                let made = self.chain(at, depth, Level::Order)?;
-                Ok(made)
-            }
-            Level::Order => {
-                let made = self.chain(at, depth, Level::Shift)?;
-                Ok(made)
-            }
-            Level::Shift => {
-                let made = self.chain(at, depth, Level::Sum)?;
-                Ok(made)
-            }
-            Level::Sum => {
-                let made = self.chain(at, depth, Level::Product)?;
-                Ok(made)
-            }
-            Level::Product => {
+            None => {
                 let made = self.unary(at, depth)?;
                 Ok(made)
             }
         }
     }
 
-    /// Operands with the operators of the level between them.
+    /// Operators of the level, at least one, each with the operand behind it.
     #[cycle(expr)]
-    fn chain(&self, at: &mut usize, depth: u32, level: Level) -> Result<Expr, Fault>
+    fn links(&self, at: &mut usize, depth: u32, level: Level) -> Result<Vec<Link>, Fault>
         requires within { at.old ≤ length (input self.now) }
         requires shallow { depth ≤ 129 }
+        requires there { begins (operator level) (next (drop at.old (input self.now))) ≡ true }
+        requires quiet { IsQuiet (looseness level) (drop at.old (input self.now)) }
         ensures { MatchResult result
-            (λ e. Reads (sub (chain_of level)) depth (input self.now) at.old at.new (tree e ∷ []))
-            (Fails (sub (chain_of level)) depth (input self.now) at.old) }
+            (λ ls. ReadsLinks level depth (input self.now) at.old at.new ls.items)
+            (Fails (many (operator level ⨾ operand level)) depth (input self.now) at.old) }
     {
-        let first = self.operand(at, depth, level)?;
         let mut links = Vec::new(self.alloc);
         'links: while self.is_operator(*at, level) {
             let (op, place) = self.operator(at, depth, level)?;
             let right = self.operand(at, depth, level)?;
             make::push_vec(&mut links, Link { op, place, right })?;
         }
-        if links.is_empty() {
-            return Ok(first);
+        Ok(links)
+    }
+
+    /// Operands with the operators of the level, and of those that bind tighter, between them.
+    #[cycle(expr)]
+    fn chain(&self, at: &mut usize, depth: u32, level: Level) -> Result<Expr, Fault>
+        requires within { at.old ≤ length (input self.now) }
+        requires shallow { depth ≤ 129 }
+        ensures { MatchResult result
+            (λ e. ReadsChain level depth (input self.now) at.old at.new (tree e))
+            (Fails (sub (chain_of level)) depth (input self.now) at.old) }
+    {
+        let mut made = self.unary(at, depth)?;
+        'climb: while let Some(next) = self.level_at(*at, level) {
+            let links = self.links(at, depth, next)?;
+            made = make::links(self.alloc, next, made, links)?;
         }
-        let made = make::links(self.alloc, level, first, links)?;
         Ok(made)
     }
 

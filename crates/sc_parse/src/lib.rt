@@ -3,6 +3,7 @@
 
 mod expr;
 mod function;
+pub mod laws;
 mod make;
 mod make_modules;
 mod make_stmts;

@@ -26,6 +26,20 @@ pub fn boxed<T: Drop>(alloc: Global, value: T) -> Result<Box<T>, Fault>
     }
 }
 
+/// A list of one item, in the room of one. Most lists of a source have no more.
+pub fn one<T: Drop>(alloc: Global, item: T) -> Result<List<T>, Fault>
+    ensures ok { IfOk result (λ l. l ≡ item ∷ []) }
+    ensures err { IfErr result (λ e. e ≡ Fault.Memory) }
+{
+    let Ok(mut items) = Vec::with_capacity(alloc, 1) else {
+        return Err(Fault::Memory);
+    };
+    match items.push(item) {
+        Ok(()) => Ok(List::from_vec(items)),
+        Err(_) => Err(Fault::Memory),
+    }
+}
+
 /// Adds an item at the end. After a fault the list is unchanged.
 pub fn push<T: Drop>(list: &mut List<T>, item: T) -> Result<(), Fault>
     ensures ok { OnOk result (list.new ≡ list.old ++ item ∷ []) }

@@ -88,8 +88,7 @@ impl Reader<'_> {
             (Fails (list (sub symbol.Param)) depth (input self.now) at.old) }
     {
         let first = self.param(at, depth)?;
-        let mut items = List::new(self.alloc);
-        make::push(&mut items, first)?;
+        let mut items = make::one(self.alloc, first)?;
         'items: while self.is_mark(*at, Mark::Comma) {
             self.mark(at, depth, Mark::Comma)?;
             let next = self.param(at, depth)?;

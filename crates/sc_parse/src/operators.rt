@@ -1,9 +1,14 @@
 //! What marks and words mean.
-ghost use Rattle.std.specs.Prelude.{◌≡◌};
-ghost use Rattle.sc_parse.specs.Rules.{marks, word_marks};
+ghost use Rattle.std.specs.Prelude.{◌≡◌, ◌+◌, ◌<◌, ◌≤◌, Some, MatchOption};
+ghost use Rattle.sc_parse.specs.declared.expr.Level.{Level};
+ghost use Rattle.sc_parse.specs.Form as symbol;
+ghost use Rattle.sc_parse.specs.Form.{sub};
+ghost use Rattle.sc_parse.specs.Levels.{kind_level, looseness, mark_level};
+ghost use Rattle.sc_parse.specs.Rules.{chain_of, marks, operand, word_marks};
 ghost use Rattle.sc_parse.specs.Trees.{binary_of, class_of, number_of, set_of, shift_of, step_of, unary_of, word_binary_of};
 
 use crate::expr::Level;
+use crate::terminal::Terminal;
 use crate::word::WordLevel;
 use sc_base::Class;
 use sc_syntax::{BinOp, Mark, NumSort, SetOp, UnOp, Word, WordOp};
@@ -166,5 +171,88 @@ pub fn word_level_marks(level: WordLevel) -> &'static [Mark]
         WordLevel::Less => &[Mark::Less],
         WordLevel::Sum => &[Mark::Plus, Mark::Minus],
         WordLevel::Product => &[Mark::Star],
+    }
+}
+
+/// How loosely the operators of a level bind.
+pub fn looseness(level: Level) -> u8
+    ensures { result ≡ looseness level }
+{
+    match level {
+        Level::Or => 6,
+        Level::And => 5,
+        Level::Equal => 4,
+        Level::Order => 3,
+        Level::Shift => 2,
+        Level::Sum => 1,
+        Level::Product => 0,
+    }
+}
+
+/// The level of the operator that a mark is.
+fn level_of_mark(mark: Mark) -> Option<Level>
+    ensures { result ≡ mark_level mark }
+{
+    match mark {
+        Mark::OrOr => Some(Level::Or),
+        Mark::AndAnd => Some(Level::And),
+        Mark::EqEq => Some(Level::Equal),
+        Mark::NotEq => Some(Level::Equal),
+        Mark::Less => Some(Level::Order),
+        Mark::LessEq => Some(Level::Order),
+        Mark::Greater => Some(Level::Order),
+        Mark::GreaterEq => Some(Level::Order),
+        Mark::ShiftLeft => Some(Level::Shift),
+        Mark::ShiftRight => Some(Level::Shift),
+        Mark::Plus => Some(Level::Sum),
+        Mark::Minus => Some(Level::Sum),
+        Mark::Star => Some(Level::Product),
+        Mark::Slash => Some(Level::Product),
+        Mark::Percent => Some(Level::Product),
+        _ => None,
+    }
+}
+
+/// The level of the operator that a token of this kind is.
+pub fn level(kind: Terminal) -> Option<Level>
+    ensures { result ≡ kind_level kind }
+{
+    match kind {
+        Terminal::Mark(mark) => level_of_mark(mark),
+        _ => None,
+    }
+}
+
+/// The level, if it binds no looser than `limit`.
+pub fn within(level: Option<Level>, limit: Level) -> Option<Level>
+    ensures { MatchOption result
+        ((l : Level) → level ≡ Some l → looseness limit < looseness l)
+        (λ l. (level ≡ Some l) × (looseness l ≤ looseness limit)) }
+{
+    match level {
+        Some(found) => {
+            if looseness(found) > looseness(limit) {
+                return None;
+            }
+            Some(found)
+        }
+        None => None,
+    }
+}
+
+/// The next level that binds tighter. Within the tightest one there are no more operators.
+pub fn tighter(level: Level) -> Option<Level>
+    ensures { MatchOption result
+        ((operand level ≡ sub symbol.Unary) × (looseness level ≡ 0))
+        (λ l. (operand level ≡ sub (chain_of l)) × (looseness level ≡ looseness l + 1)) }
+{
+    match level {
+        Level::Or => Some(Level::And),
+        Level::And => Some(Level::Equal),
+        Level::Equal => Some(Level::Order),
+        Level::Order => Some(Level::Shift),
+        Level::Shift => Some(Level::Sum),
+        Level::Sum => Some(Level::Product),
+        Level::Product => None,
     }
 }

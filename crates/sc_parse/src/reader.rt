@@ -2,9 +2,8 @@
 ghost use Rattle.std.specs.Prelude.{◌≡◌, ◌≢◌, ℕ, ◌≤◌, ◌<◌, length, drop, slice_get, Some, MatchResult, [], ◌∷◌, find};
 ghost use Rattle.sc_syntax.specs.declared.Token.{Token};
 ghost use Rattle.sc_parse.specs.Pieces.{IsInside};
-ghost use Rattle.std.specs.List.{list_any};
 
-use crate::terminal::{Terminal, accepts, kind_of_token};
+use crate::terminal::{Terminal, accepts, any_accepts, first_mark, kind_of_token};
 use sc_base::{Place, Text};
 use sc_syntax::{Mark, Name, Token, TokenSort, Width, Word};
 use std::alloc::Global;
@@ -37,15 +36,25 @@ impl Reader<'_> {
     ghost use Rattle.sc_parse.specs.Reads.{Takes, TakesMark, TakesToken, Fails};
     ghost use Rattle.sc_parse.specs.Trees.{token, name, width};
 
-    /// Whether the next token is one that the terminal takes.
-    pub fn is_at(&self, at: usize, terminal: Terminal) -> bool
-        ensures { result ≡ begins (one terminal) (next (drop at (input self.now))) }
+    /// What the next token is to the grammar, if there is one.
+    pub fn kind_at(&self, at: usize) -> Option<Terminal>
+        ensures { result ≡ next (drop at (input self.now)) }
     {
         match self.tokens.get(at) {
             Some(token) => {
                 let text = &self.source[token.start as usize..token.end as usize];
-                accepts(terminal, kind_of_token(token.sort, text))
+                Some(kind_of_token(token.sort, text))
             }
+            None => None,
+        }
+    }
+
+    /// Whether the next token is one that the terminal takes.
+    pub fn is_at(&self, at: usize, terminal: Terminal) -> bool
+        ensures { result ≡ begins (one terminal) (next (drop at (input self.now))) }
+    {
+        match self.kind_at(at) {
+            Some(kind) => accepts(terminal, kind),
             None => false,
         }
     }
@@ -74,14 +83,10 @@ impl Reader<'_> {
     pub fn begins(&self, at: usize, starts: &[Terminal]) -> bool
         ensures { result ≡ ahead (among starts.now) (next (drop at (input self.now))) }
     {
-        self.any_at(at, starts)
-    }
-
-    /// Whether one of the terminals takes the next token.
-    fn any_at(&self, at: usize, terminals: &[Terminal]) -> bool
-        ensures { result ≡ list_any (λ t. begins (one t) (next (drop at (input self.now)))) terminals.now }
-    {
-        terminals.iter().any(|terminal| self.is_at(at, *terminal))
+        match self.kind_at(at) {
+            Some(kind) => any_accepts(starts, kind),
+            None => false,
+        }
     }
 
     /// Whether the next token is this mark.
@@ -102,7 +107,10 @@ impl Reader<'_> {
     pub fn which(&self, at: usize, marks: &[Mark]) -> Option<Mark>
         ensures { result ≡ find (λ m. begins (mark_form m) (next (drop at (input self.now)))) marks.now }
     {
-        marks.iter().copied().find(|mark| self.is_mark(at, *mark))
+        match self.kind_at(at) {
+            Some(kind) => first_mark(marks, kind),
+            None => None,
+        }
     }
 
     /// Takes this mark, and answers its place.

@@ -166,6 +166,3 @@ impl Reader<'_> {
         Ok(Source { parts })
     }
 }
-
-#[cfg(test)]
-mod tests;

@@ -76,8 +76,7 @@ impl Reader<'_> {
             (Fails (list (sub symbol.Decl)) depth (input self.now) at.old) }
     {
         let first = self.decl(at, depth)?;
-        let mut items = List::new(self.alloc);
-        make::push(&mut items, first)?;
+        let mut items = make::one(self.alloc, first)?;
         'items: while self.is_mark(*at, Mark::Comma) {
             self.mark(at, depth, Mark::Comma)?;
             let next = self.decl(at, depth)?;
@@ -124,8 +123,7 @@ impl Reader<'_> {
             (Fails (list (sub symbol.Init)) depth (input self.now) at.old) }
     {
         let first = self.init(at, depth)?;
-        let mut items = List::new(self.alloc);
-        make::push(&mut items, first)?;
+        let mut items = make::one(self.alloc, first)?;
         'items: while self.is_mark(*at, Mark::Comma) {
             self.mark(at, depth, Mark::Comma)?;
             let next = self.init(at, depth)?;
@@ -192,8 +190,7 @@ impl Reader<'_> {
             (Fails (list (sub symbol.Expr)) depth (input self.now) at.old) }
     {
         let first = self.expr(at, depth)?;
-        let mut items = List::new(self.alloc);
-        make::push(&mut items, first)?;
+        let mut items = make::one(self.alloc, first)?;
         'items: while self.is_mark(*at, Mark::Comma) {
             self.mark(at, depth, Mark::Comma)?;
             let next = self.expr(at, depth)?;

@@ -1,5 +1,6 @@
 //! The terminals of the grammar.
-ghost use Rattle.std.specs.Prelude.{◌≡◌};
+ghost use Rattle.std.specs.Prelude.{◌≡◌, find};
+ghost use Rattle.std.specs.List.{list_any};
 ghost use Rattle.sc_parse.specs.Terminals.{kind_of, name_kind, fits, takes_mark, takes_word};
 
 use sc_base::GateName;
@@ -82,6 +83,20 @@ pub fn accepts(terminal: Terminal, kind: Terminal) -> bool
         Terminal::Int => matches!(kind, Terminal::Int),
         Terminal::Decimal => matches!(kind, Terminal::Decimal),
     }
+}
+
+/// Whether one of the terminals takes a token of this kind.
+pub fn any_accepts(terminals: &[Terminal], kind: Terminal) -> bool
+    ensures { result ≡ list_any (λ t. fits t kind) terminals.now }
+{
+    terminals.iter().any(|terminal| accepts(*terminal, kind))
+}
+
+/// The first of these marks that a token of this kind is.
+pub fn first_mark(marks: &[Mark], kind: Terminal) -> Option<Mark>
+    ensures { result ≡ find (λ m. takes_mark m kind) marks.now }
+{
+    marks.iter().copied().find(|mark| is_mark(*mark, kind))
 }
 
 fn is_word(word: Word, kind: Terminal) -> bool

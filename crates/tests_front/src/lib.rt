@@ -2,4 +2,6 @@
 #![tactic(auto)]
 
 #[cfg(test)]
+mod parse;
+#[cfg(test)]
 mod value;

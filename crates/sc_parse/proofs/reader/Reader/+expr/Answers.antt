@@ -1,14 +1,13 @@
 use Rattle.std.proofs.Common.{refl, sym, ◌∙◌, [], ◌∷◌, arith}
-use Rattle.std.proofs.lemmas.Grind.{common_steps}
 use Rattle.std.proofs.lemmas.Result.{err_from_is_err_and}
 use Rattle.std.specs.Option.{is_some}
 use Rattle.sc_parse.specs.Trees.{token, expr as tree, unary_of}
 use Rattle.sc_parse.specs.Derives.{or_is, prim_is}
 use Rattle.sc_parse.proofs.Forget.{fits_of}
 use Rattle.sc_parse.proofs.Sorts.{int_sort, decimal_sort}
-use Rattle.sc_parse.proofs.Repeats.{repeats, repeats_not}
-use Rattle.sc_parse.proofs.Chains.{link_begins, name_begins, fails_chain, reads_chain, chained_start, chained_more, chained_none}
-use Rattle.sc_parse.proofs.Steps.{reads_sub, reads_nested, reads_both, reads_left, reads_right, reads_empty, fails_sub, fails_nested, fails_first, fails_second, fails_left, fails_right}
+use Rattle.sc_parse.proofs.Repeats.{repeats_not}
+use Rattle.sc_parse.proofs.Chains.{link_begins, name_begins, chained_start, chained_more, chained_links, climbed_start, climbed_more, climbed_chain, climbed_fails, unary_fails, level_there, quiet_below}
+use Rattle.sc_parse.proofs.Steps.{reads_sub, reads_nested, reads_both, reads_left, reads_right, reads_empty, fails_sub, fails_nested, fails_first, fails_second, fails_left, fails_right, none_of}
 use Rattle.sc_parse.proofs.reader.Reader.+expr.Goals as goal
 
 pub expr-returns-in_err-test : goal.expr-returns-in_err-test
@@ -17,27 +16,27 @@ expr-returns-in_err-test t c =
     rw (p.1, p.2) (fails_sub (fails_nested (fails_first (c.in_err-test.ensures))))
 
 pub expr-returns-then-not-is_mark : goal.expr-returns-then-not-is_mark
-expr-returns-then-not-is_mark t c = let b = sym c.is_mark.ensures ∙ c.if-not-is_mark.true in reads_sub (reads_nested (reads_both c.in_ok-test.ensures (reads_right b (reads_empty c.in_ok-test.ensures.within)))) or_is
+expr-returns-then-not-is_mark t c = let b = sym c.is_mark.ensures ∙ c.if-not-is_mark.true in reads_sub (reads_nested (reads_both c.in_ok-test.ensures.reads (reads_right b (reads_empty c.in_ok-test.ensures.reads.within)))) or_is
 
 pub expr-returns-in_err-mark : goal.expr-returns-in_err-mark
 expr-returns-in_err-mark t c =
     let p = err_from_is_err_and c.from_residual-in_err-mark.result c.from_residual-in_err-mark.ensures.1 in let b = sym c.is_mark.ensures ∙ c.if-not-is_mark.false in
-    rw (p.1, p.2) (fails_sub (fails_nested (fails_second c.in_ok-test.ensures (fails_left b (fails_first (c.in_err-mark.ensures))))))
+    rw (p.1, p.2) (fails_sub (fails_nested (fails_second c.in_ok-test.ensures.reads (fails_left b (fails_first (c.in_err-mark.ensures))))))
 
 pub expr-returns-in_err-yes : goal.expr-returns-in_err-yes
 expr-returns-in_err-yes t c =
     let p = err_from_is_err_and c.from_residual-in_err-yes.result c.from_residual-in_err-yes.ensures.1 in let b = sym c.is_mark.ensures ∙ c.if-not-is_mark.false in
-    rw (p.1, p.2) (fails_sub (fails_nested (fails_second c.in_ok-test.ensures (fails_left b (fails_second c.in_ok-mark.ensures.takes.reads (fails_first (c.in_err-yes.ensures)))))))
+    rw (p.1, p.2) (fails_sub (fails_nested (fails_second c.in_ok-test.ensures.reads (fails_left b (fails_second c.in_ok-mark.ensures.takes.reads (fails_first (c.in_err-yes.ensures)))))))
 
 pub expr-returns-in_err-mark-2 : goal.expr-returns-in_err-mark-2
 expr-returns-in_err-mark-2 t c =
     let p = err_from_is_err_and c.from_residual-in_err-mark-2.result c.from_residual-in_err-mark-2.ensures.1 in let b = sym c.is_mark.ensures ∙ c.if-not-is_mark.false in
-    rw (p.1, p.2) (fails_sub (fails_nested (fails_second c.in_ok-test.ensures (fails_left b (fails_second c.in_ok-mark.ensures.takes.reads (fails_second c.in_ok-yes.ensures (fails_first (c.in_err-mark-2.ensures))))))))
+    rw (p.1, p.2) (fails_sub (fails_nested (fails_second c.in_ok-test.ensures.reads (fails_left b (fails_second c.in_ok-mark.ensures.takes.reads (fails_second c.in_ok-yes.ensures (fails_first (c.in_err-mark-2.ensures))))))))
 
 pub expr-returns-in_err-no : goal.expr-returns-in_err-no
 expr-returns-in_err-no t c =
     let p = err_from_is_err_and c.from_residual-in_err-no.result c.from_residual-in_err-no.ensures.1 in let b = sym c.is_mark.ensures ∙ c.if-not-is_mark.false in
-    rw (p.1, p.2) (fails_sub (fails_nested (fails_second c.in_ok-test.ensures (fails_left b (fails_second c.in_ok-mark.ensures.takes.reads (fails_second c.in_ok-yes.ensures (fails_second c.in_ok-mark-2.ensures.takes.reads (c.in_err-no.ensures))))))))
+    rw (p.1, p.2) (fails_sub (fails_nested (fails_second c.in_ok-test.ensures.reads (fails_left b (fails_second c.in_ok-mark.ensures.takes.reads (fails_second c.in_ok-yes.ensures (fails_second c.in_ok-mark-2.ensures.takes.reads (c.in_err-no.ensures))))))))
 
 pub expr-returns-in_err-made : goal.expr-returns-in_err-made
 expr-returns-in_err-made t c =
@@ -45,44 +44,61 @@ expr-returns-in_err-made t c =
     rw (p.1, p.2, c.in_err-made.ensures.err) (record { why = tt })
 
 pub expr-returns : goal.expr-returns
-expr-returns t c = let b = sym c.is_mark.ensures ∙ c.if-not-is_mark.false in reads_sub (reads_nested (reads_both c.in_ok-test.ensures (reads_left b (reads_both c.in_ok-mark.ensures.takes.reads (reads_both c.in_ok-yes.ensures (reads_both c.in_ok-mark-2.ensures.takes.reads (c.in_ok-no.ensures))))))) (c.in_ok-made.ensures.ok _ _)
+expr-returns t c = let b = sym c.is_mark.ensures ∙ c.if-not-is_mark.false in reads_sub (reads_nested (reads_both c.in_ok-test.ensures.reads (reads_left b (reads_both c.in_ok-mark.ensures.takes.reads (reads_both c.in_ok-yes.ensures (reads_both c.in_ok-mark-2.ensures.takes.reads (c.in_ok-no.ensures))))))) (c.in_ok-made.ensures.ok _ _)
 
-pub chain-returns-in_err-first : goal.chain-returns-in_err-first
-chain-returns-in_err-first t c =
-    let p = err_from_is_err_and c.from_residual.result c.from_residual.ensures.1 in
-    rw (p.1, p.2) (fails_chain c.args.level (fails_first (c.in_err-first.ensures)))
+pub links-links-init : goal.links-links-init
+links-links-init t c = chained_start c.args.level _ _ _ _ c.requires.within c.requires.quiet c.new-links.ensures.items
 
-pub chain-links-init : goal.chain-links-init
-chain-links-init t c = chained_start c.args.level _ _ _ _ c.in_ok-first.ensures.within c.new-links.ensures.items
+pub links-returns-in_err-op : goal.links-returns-in_err-op
+links-returns-in_err-op t c =
+    let p = err_from_is_err_and c.from_residual.result c.from_residual.ensures.1 in let b0 = sym c.is_operator.ensures ∙ c.links-test.true in let b = link_begins c.args.level _ ∙ b0 in
+    rw (p.1, p.2) (repeats_not _ _ _ _ _ _ _ c.links.invariant.repeated b (fails_first (c.in_err-op.ensures)))
 
-pub chain-returns-in_err-op : goal.chain-returns-in_err-op
-chain-returns-in_err-op t c =
-    let p = err_from_is_err_and c.from_residual-in_err-op.result c.from_residual-in_err-op.ensures.1 in let b0 = sym c.is_operator.ensures ∙ c.links-test.true in let b = link_begins c.args.level _ ∙ b0 in
-    rw (p.1, p.2) (fails_chain c.args.level (fails_second c.in_ok-first.ensures (repeats_not _ _ _ _ _ _ _ c.links.invariant.repeated b (fails_first (c.in_err-op.ensures)))))
-
-pub chain-returns-in_err-right : goal.chain-returns-in_err-right
-chain-returns-in_err-right t c =
+pub links-returns-in_err-right : goal.links-returns-in_err-right
+links-returns-in_err-right t c =
     let p = err_from_is_err_and c.from_residual-in_err-right.result c.from_residual-in_err-right.ensures.1 in let b0 = sym c.is_operator.ensures ∙ c.links-test.true in let b = link_begins c.args.level _ ∙ b0 in
-    rw (p.1, p.2) (fails_chain c.args.level (fails_second c.in_ok-first.ensures (repeats_not _ _ _ _ _ _ _ c.links.invariant.repeated b (fails_second c.in_ok-op.ensures.takes.reads (c.in_err-right.ensures)))))
+    rw (p.1, p.2) (repeats_not _ _ _ _ _ _ _ c.links.invariant.repeated b (fails_second c.in_ok-op.ensures.takes.reads (c.in_err-right.ensures)))
 
-pub chain-returns-in_err-push_vec : goal.chain-returns-in_err-push_vec
-chain-returns-in_err-push_vec t c =
+pub links-returns-in_err-push_vec : goal.links-returns-in_err-push_vec
+links-returns-in_err-push_vec t c =
     let p = err_from_is_err_and c.from_residual-in_err-push_vec.result c.from_residual-in_err-push_vec.ensures.1 in
     rw (p.1, p.2, c.in_err-push_vec.ensures.err) (record { why = tt })
 
-pub chain-links-preserved : goal.chain-links-preserved
-chain-links-preserved t c = let b0 = sym c.is_operator.ensures ∙ c.links-test.true in let b = link_begins c.args.level _ ∙ b0 in chained_more _ _ _ _ _ _ _ _ _ (record { op = c.in_ok-op.op; place = c.in_ok-op.place; right = c.in_ok-right.right }) c.links.invariant b c.in_ok-op.ensures c.in_ok-right.ensures c.in_ok-push_vec.ensures.ok
+pub links-links-preserved : goal.links-links-preserved
+links-links-preserved t c = let b0 = sym c.is_operator.ensures ∙ c.links-test.true in let b = link_begins c.args.level _ ∙ b0 in chained_more _ _ _ _ _ _ _ _ _ (record { op = c.in_ok-op.op; place = c.in_ok-op.place; right = c.in_ok-right.right }) c.links.invariant b c.in_ok-op.ensures c.in_ok-right.ensures c.in_ok-push_vec.ensures.ok
 
-pub chain-returns-then-is_empty : goal.chain-returns-then-is_empty
-chain-returns-then-is_empty t c = let b0 = sym c.is_operator.ensures ∙ c.links-test.false in let b = link_begins c.args.level _ ∙ b0 in chained_none c.args.level _ _ _ _ _ _ _ c.in_ok-first.ensures c.links.invariant b (grind (arith, common_steps))
+pub links-returns : goal.links-returns
+links-returns t c = chained_links c.args.level _ _ _ _ _ c.requires.there c.links.invariant (sym c.is_operator.ensures ∙ c.links-test.false)
 
 pub chain-returns-in_err-made : goal.chain-returns-in_err-made
 chain-returns-in_err-made t c =
-    let p = err_from_is_err_and c.from_residual-in_err-made.result c.from_residual-in_err-made.ensures.1 in
-    rw (p.1, p.2, c.in_err-made.ensures.err) (record { why = tt })
+    let p = err_from_is_err_and c.from_residual.result c.from_residual.ensures.1 in
+    rw (p.1, p.2) (unary_fails c.args.level _ _ _ _ c.in_err-made.ensures)
+
+pub chain-climb-init : goal.chain-climb-init
+chain-climb-init t c = record { from = λ a r. climbed_start c.args.level _ _ _ _ _ r }
+
+pub chain-links-requires : goal.chain-links-requires
+chain-links-requires t c =
+    let k = c.climb.invariant.from _ c.in_ok-made.ensures in
+    let f = k.reads.forward in
+    (omega (arith, f), (k.reads.within, (c.requires.shallow, (level_there _ _ c.in-Some.ensures.0, quiet_below _ _ c.in-Some.ensures.0))))
+
+pub chain-returns-in_err-links : goal.chain-returns-in_err-links
+chain-returns-in_err-links t c =
+    let p = err_from_is_err_and c.from_residual-in_err-links.result c.from_residual-in_err-links.ensures.1 in
+    rw (p.1, p.2) (climbed_fails _ c.args.level _ _ _ _ _ _ c.in-Some.ensures.0 c.in-Some.ensures.1 (c.climb.invariant.from _ c.in_ok-made.ensures) c.in_err-links.ensures)
+
+pub chain-returns-in_err-made-2 : goal.chain-returns-in_err-made-2
+chain-returns-in_err-made-2 t c =
+    let p = err_from_is_err_and c.from_residual-in_err-made-2.result c.from_residual-in_err-made-2.ensures.1 in
+    rw (p.1, p.2, c.in_err-made-2.ensures.err) (record { why = tt })
+
+pub chain-climb-preserved : goal.chain-climb-preserved
+chain-climb-preserved t c = record { from = λ a r. climbed_more _ c.args.level _ _ _ _ _ _ _ _ c.in-Some.ensures.0 c.in-Some.ensures.1 (c.climb.invariant.from a r) c.in_ok-links.ensures c.in_ok-made-2.ensures.ok }
 
 pub chain-returns : goal.chain-returns
-chain-returns t c = let b0 = sym c.is_operator.ensures ∙ c.links-test.false in let b = link_begins c.args.level _ ∙ b0 in reads_chain c.args.level (reads_both c.in_ok-first.ensures ((repeats _ _ _ _ _ _ c.links.invariant.repeated b))) (c.in_ok-made.ensures.ok _ c.links.invariant.linked)
+chain-returns t c = climbed_chain c.args.level _ _ _ _ _ (none_of _ _ _ c.in_default.not-Some c.level_at.ensures) (c.climb.invariant.from _ c.in_ok-made.ensures)
 
 pub unary-returns-in_err-made : goal.unary-returns-in_err-made
 unary-returns-in_err-made t c =

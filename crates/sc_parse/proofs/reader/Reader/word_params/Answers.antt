@@ -1,4 +1,4 @@
-use Rattle.std.proofs.Common.{refl, sym, ◌∙◌, ap, List, [], ◌∷◌, ◌++◌}
+use Rattle.std.proofs.Common.{refl, sym, ◌∙◌}
 use Rattle.std.proofs.lemmas.Result.{err_from_is_err_and}
 use Rattle.sc_parse.specs.Trees.{word_param}
 use Rattle.sc_parse.proofs.Repeats.{repeats_not}
@@ -11,10 +11,10 @@ returns-in_err-first c =
     let p = err_from_is_err_and c.from_residual.result c.from_residual.ensures.1 in
     rw (p.1, p.2) (fails_first (c.in_err-first.ensures))
 
-pub returns-in_err-push : goal.returns-in_err-push
-returns-in_err-push c =
-    let p = err_from_is_err_and c.from_residual-in_err-push.result c.from_residual-in_err-push.ensures.1 in
-    rw (p.1, p.2, c.in_err-push.ensures.err) (record { why = tt })
+pub returns-in_err-items : goal.returns-in_err-items
+returns-in_err-items c =
+    let p = err_from_is_err_and c.from_residual-in_err-items.result c.from_residual-in_err-items.ensures.1 in
+    rw (p.1, p.2, c.in_err-items.ensures.err) (record { why = tt })
 
 pub items-init : goal.items-init
 items-init c = listed_start _ _ _ _ _ _ _ c.in_ok-first.ensures.within refl
@@ -29,13 +29,13 @@ returns-in_err-next c =
     let p = err_from_is_err_and c.from_residual-in_err-next.result c.from_residual-in_err-next.ensures.1 in let b = sym c.is_mark.ensures ∙ c.items-test.true in
     rw (p.1, p.2) (fails_second c.in_ok-first.ensures (repeats_not _ _ _ _ _ _ _ c.items.invariant.repeated b (fails_second c.in_ok-mark.ensures.takes.reads (c.in_err-next.ensures))))
 
-pub returns-in_err-push-2 : goal.returns-in_err-push-2
-returns-in_err-push-2 c =
-    let p = err_from_is_err_and c.from_residual-in_err-push-2.result c.from_residual-in_err-push-2.ensures.1 in
-    rw (p.1, p.2, c.in_err-push-2.ensures.err) (record { why = tt })
+pub returns-in_err-push : goal.returns-in_err-push
+returns-in_err-push c =
+    let p = err_from_is_err_and c.from_residual-in_err-push.result c.from_residual-in_err-push.ensures.1 in
+    rw (p.1, p.2, c.in_err-push.ensures.err) (record { why = tt })
 
 pub items-preserved : goal.items-preserved
-items-preserved c = let b = sym c.is_mark.ensures ∙ c.items-test.true in listed_more _ word_param _ _ _ _ _ _ _ _ _ c.items.invariant b c.in_ok-mark.ensures.takes.reads c.in_ok-next.ensures (λ us. refl) c.in_ok-push-2.ensures.ok
+items-preserved c = let b = sym c.is_mark.ensures ∙ c.items-test.true in listed_more _ word_param _ _ _ _ _ _ _ _ _ c.items.invariant b c.in_ok-mark.ensures.takes.reads c.in_ok-next.ensures (λ us. refl) c.in_ok-push.ensures.ok
 
 pub returns : goal.returns
-returns c = let b = sym c.is_mark.ensures ∙ c.items-test.false in listed_keeps _ word_param _ _ _ _ _ _ _ _ c.in_ok-first.ensures c.items.invariant b (c.in_ok-push.ensures.ok ∙ ap (λ (l : List _). l ++ c.in_ok-first.first ∷ []) c.new-items.ensures) (λ us. refl)
+returns c = let b = sym c.is_mark.ensures ∙ c.items-test.false in listed_keeps _ word_param _ _ _ _ _ _ _ _ c.in_ok-first.ensures c.items.invariant b c.in_ok-items.ensures.ok (λ us. refl)
