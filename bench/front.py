@@ -5,7 +5,7 @@ usage: bench/front.py [PROGRAM]
 PROGRAM is `crates/scaff/out/scaff` where none is given. The sources are 45,100 small modules of 93 tokens, which is as
 many as are allowed, once as they are and once with spaces up to 16 MiB. Each is run three times: refused behind its last token, so that only tokens are read; refused at its
 last token, so that a tree is made too; and with no `main`, so that types are checked too. Each line is the least of three
-runs. The last line is the least stack, by `ulimit -s`, on which 126 nested parentheses are read.
+runs. The last lines are the least stack, by `ulimit -s`, on which 126 nested parentheses are read.
 """
 import os, resource, subprocess, sys, tempfile
 from pathlib import Path
@@ -45,9 +45,9 @@ def measure(text, stack=None):
     return best
 
 
-def least_stack():
-    """The least stack in KiB on which 126 nested parentheses are read."""
-    text = 'int main() { int x = ' + '(' * 126 + '0' + ')' * 126 + '; }\n'
+def least_stack(before):
+    """The least stack in KiB on which 126 nested parentheses behind this text are read."""
+    text = before + '(' * 126 + '0' + ')' * 126 + '; }\n'
     low, high = 16, 8192
     while low + 16 < high:
         middle = (low + high) // 2
@@ -67,7 +67,8 @@ def main():
             took, peak, status, said = measure(source)
             print(f'{name}: {len(source)} bytes, {count} modules, up to {what} {took:.2f} s (+{took - before:.2f}), peak {peak} MiB; {said}')
             before = took
-    print(f'126 nested parentheses: {least_stack()} KiB of stack')
+    for where, before in (('an expression', 'int main() { int x = '), ('a classical function', 'classical f(a) : 4 { return ')):
+        print(f'126 nested parentheses in {where}: {least_stack(before)} KiB of stack')
 
 
 main()

@@ -10,18 +10,9 @@ use Rattle.sc_parse.specs.declared.expr.Level.TheVariants as level
 use Rattle.sc_parse.specs.declared.word.WordLevel.{WordLevel}
 use Rattle.sc_parse.specs.declared.word.WordLevel.TheVariants as wlevel
 use Rattle.sc_parse.specs.Levels.{looseness}
+use Rattle.sc_parse.specs.WordLevels.{word_looseness}
 use Rattle.sc_parse.specs.Rules.{marks, word_marks}
 use Rattle.sc_parse.specs.Trees.{binary_of, word_binary_of, level_of, word_level_of}
-
--- how loosely a word level's operators bind
-abbrev pub word_looseness : WordLevel → ℕ
-word_looseness wlevel.Or = 7
-word_looseness wlevel.Xor = 6
-word_looseness wlevel.And = 5
-word_looseness wlevel.Equal = 4
-word_looseness wlevel.Less = 3
-word_looseness wlevel.Sum = 1
-word_looseness wlevel.Product = 0
 
 abbrev item : {X : Type 0} → ℕ → List X → Option X
 item i [] = None
@@ -55,7 +46,7 @@ word_level_there wlevel.Less = refl
 word_level_there wlevel.Sum = refl
 word_level_there wlevel.Product = refl
 
-same_word_level : (a b : WordLevel) → nat_eq (word_looseness a) (word_looseness b) ≡ true → a ≡ b
+pub same_word_level : (a b : WordLevel) → nat_eq (word_looseness a) (word_looseness b) ≡ true → a ≡ b
 same_word_level a b e = let i = ap (λ (n : ℕ). item n word_levels) (eqb-true _ _ e) in let x = word_level_there a in let y = word_level_there b in cc
 
 -- the operator is there, and of this level

@@ -9,6 +9,7 @@ pub mod Input
 pub mod Trees
 pub mod Derives
 pub mod Levels
+pub mod WordLevels
 pub mod Grammar
 pub mod Faults
 pub mod Texts

@@ -118,7 +118,7 @@ impl Reader<'_> {
             (λ ls. ReadsLinks level depth (input self.now) at.old at.new ls.items)
             (Fails (many (operator level ⨾ operand level)) depth (input self.now) at.old) }
     {
-        let mut links = Vec::new(self.alloc);
+        let mut links = make::room_for_one(self.alloc)?;
         'links: while self.is_operator(*at, level) {
             let (op, place) = self.operator(at, depth, level)?;
             let right = self.operand(at, depth, level)?;

@@ -40,6 +40,26 @@ pub fn one<T: Drop>(alloc: Global, item: T) -> Result<List<T>, Fault>
     }
 }
 
+/// An empty list with room for one item.
+pub fn room_for_one<T>(alloc: Global) -> Result<Vec<T>, Fault>
+    ensures ok { IfOk result (λ l. l.items ≡ []) }
+    ensures err { IfErr result (λ e. e ≡ Fault.Memory) }
+{
+    match Vec::with_capacity(alloc, 1) {
+        Ok(items) => Ok(items),
+        Err(_) => Err(Fault::Memory),
+    }
+}
+
+/// The list in no more room than it needs.
+pub fn fitted<T>(list: Vec<T>) -> Vec<T>
+    ensures { result.items ≡ list.items }
+{
+    let mut list = list;
+    list.shrink_to_fit();
+    list
+}
+
 /// Adds an item at the end. After a fault the list is unchanged.
 pub fn push<T: Drop>(list: &mut List<T>, item: T) -> Result<(), Fault>
     ensures ok { OnOk result (list.new ≡ list.old ++ item ∷ []) }

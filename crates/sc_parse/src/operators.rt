@@ -1,10 +1,12 @@
 //! What marks and words mean.
-ghost use Rattle.std.specs.Prelude.{◌≡◌, ◌+◌, ◌<◌, ◌≤◌, Some, MatchOption};
+ghost use Rattle.std.specs.Prelude.{◌≡◌, ◌+◌, ◌<◌, ◌≤◌, true, false, Some, MatchOption};
 ghost use Rattle.sc_parse.specs.declared.expr.Level.{Level};
 ghost use Rattle.sc_parse.specs.Form as symbol;
 ghost use Rattle.sc_parse.specs.Form.{sub};
 ghost use Rattle.sc_parse.specs.Levels.{kind_level, looseness, mark_level};
-ghost use Rattle.sc_parse.specs.Rules.{chain_of, marks, operand, word_marks};
+ghost use Rattle.sc_parse.specs.declared.word.WordLevel.{WordLevel};
+ghost use Rattle.sc_parse.specs.Rules.{chain_of, marks, operand, word_chain_of, word_marks, word_operand};
+ghost use Rattle.sc_parse.specs.WordLevels.{tightest, word_base, word_kind_level, word_looseness, word_mark_level};
 ghost use Rattle.sc_parse.specs.Trees.{binary_of, class_of, number_of, set_of, shift_of, step_of, unary_of, word_binary_of};
 
 use crate::expr::Level;
@@ -254,5 +256,115 @@ pub fn tighter(level: Level) -> Option<Level>
         Level::Shift => Some(Level::Sum),
         Level::Sum => Some(Level::Product),
         Level::Product => None,
+    }
+}
+
+/// How loosely the operators of a level of words bind. 2 is left for shifts.
+pub fn word_looseness(level: WordLevel) -> u8
+    ensures { result ≡ word_looseness level }
+{
+    match level {
+        WordLevel::Or => 7,
+        WordLevel::Xor => 6,
+        WordLevel::And => 5,
+        WordLevel::Equal => 4,
+        WordLevel::Less => 3,
+        WordLevel::Sum => 1,
+        WordLevel::Product => 0,
+    }
+}
+
+/// How loosely the tightest operators bind that are on the same side of the shifts.
+pub fn tightest(level: WordLevel) -> u8
+    ensures { result ≡ tightest level }
+{
+    match level {
+        WordLevel::Or => 3,
+        WordLevel::Xor => 3,
+        WordLevel::And => 3,
+        WordLevel::Equal => 3,
+        WordLevel::Less => 3,
+        WordLevel::Sum => 0,
+        WordLevel::Product => 0,
+    }
+}
+
+/// The level of the operator of words that a mark is.
+fn word_level_of_mark(mark: Mark) -> Option<WordLevel>
+    ensures { result ≡ word_mark_level mark }
+{
+    match mark {
+        Mark::Or => Some(WordLevel::Or),
+        Mark::Caret => Some(WordLevel::Xor),
+        Mark::And => Some(WordLevel::And),
+        Mark::EqEq => Some(WordLevel::Equal),
+        Mark::Less => Some(WordLevel::Less),
+        Mark::Plus => Some(WordLevel::Sum),
+        Mark::Minus => Some(WordLevel::Sum),
+        Mark::Star => Some(WordLevel::Product),
+        _ => None,
+    }
+}
+
+/// The level of the operator of words that a token of this kind is.
+pub fn word_level(kind: Terminal) -> Option<WordLevel>
+    ensures { result ≡ word_kind_level kind }
+{
+    match kind {
+        Terminal::Mark(mark) => word_level_of_mark(mark),
+        _ => None,
+    }
+}
+
+/// The level, if it is on the same side of the shifts as `limit` and binds no looser.
+pub fn word_within(level: Option<WordLevel>, limit: WordLevel) -> Option<WordLevel>
+    ensures { MatchOption result
+        ((l : WordLevel) → level ≡ Some l → tightest limit ≤ word_looseness l → word_looseness limit < word_looseness l)
+        (λ l. (level ≡ Some l) × (tightest limit ≤ word_looseness l) × (word_looseness l ≤ word_looseness limit)) }
+{
+    match level {
+        Some(found) => {
+            if word_looseness(found) < tightest(limit) {
+                return None;
+            }
+            if word_looseness(found) > word_looseness(limit) {
+                return None;
+            }
+            Some(found)
+        }
+        None => None,
+    }
+}
+
+/// The next level that binds tighter, on the same side of the shifts.
+pub fn word_tighter(level: WordLevel) -> Option<WordLevel>
+    ensures { MatchOption result
+        ((word_operand level ≡ word_base level) × (word_looseness level ≡ tightest level))
+        (λ l. (word_operand level ≡ sub (word_chain_of l)) × (word_looseness level ≡ word_looseness l + 1) × (tightest level ≡ tightest l)) }
+{
+    match level {
+        WordLevel::Or => Some(WordLevel::Xor),
+        WordLevel::Xor => Some(WordLevel::And),
+        WordLevel::And => Some(WordLevel::Equal),
+        WordLevel::Equal => Some(WordLevel::Less),
+        WordLevel::Less => None,
+        WordLevel::Sum => Some(WordLevel::Product),
+        WordLevel::Product => None,
+    }
+}
+
+/// Whether the level is within the shifts, and not around them.
+pub fn is_tight(level: WordLevel) -> bool
+    ensures tight { result ≡ true → word_base level ≡ sub symbol.WUnary }
+    ensures loose { result ≡ false → (word_base level ≡ sub symbol.WShift) × (tightest level ≡ 3) }
+{
+    match level {
+        WordLevel::Or => false,
+        WordLevel::Xor => false,
+        WordLevel::And => false,
+        WordLevel::Equal => false,
+        WordLevel::Less => false,
+        WordLevel::Sum => true,
+        WordLevel::Product => true,
     }
 }

@@ -196,7 +196,8 @@ impl Reader<'_> {
             let next = self.expr(at, depth)?;
             make::push(&mut items, next)?;
         }
-        Ok(items)
+        let whole = make::fitted(items.into_vec());
+        Ok(List::from_vec(whole))
     }
 
     /// Arguments, if there are any.
@@ -501,7 +502,8 @@ impl Reader<'_> {
             let next = self.stmt(at, depth)?;
             make::push_vec(&mut items, next)?;
         }
-        Ok(items)
+        let whole = make::fitted(items);
+        Ok(whole)
     }
 
     /// Statements in braces.

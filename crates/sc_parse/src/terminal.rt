@@ -35,6 +35,9 @@ pub enum Terminal {
 pub fn kind_of_name(text: &[u8]) -> Terminal
     ensures { result ≡ name_kind text.now }
 {
+    if text.len() < 3 || text.len() > 4 {
+        return Terminal::Other;
+    }
     if text == b"main".as_slice() {
         return Terminal::Main;
     }

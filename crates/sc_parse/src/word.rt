@@ -1,7 +1,7 @@
 //! The expressions of classical functions.
-ghost use Rattle.std.specs.Prelude.{◌≡◌, ◌≤◌, [], ◌∷◌, length, drop, MatchResult};
+ghost use Rattle.std.specs.Prelude.{◌≡◌, ◌≤◌, ◌<◌, [], ◌∷◌, length, drop, true, Some, MatchOption, MatchResult};
 
-use crate::operators::{SHIFTS, shift, word_binary, word_level_marks};
+use crate::operators::{self, SHIFTS, shift, word_binary, word_level_marks};
 use crate::reader::{Fault, Reader};
 use crate::terminal::Terminal;
 use crate::{make, make_words};
@@ -21,8 +21,10 @@ pub enum WordLevel {
 }
 
 impl Reader<'_> {
+    ghost use Rattle.sc_parse.specs.declared.word.WordLevel.{WordLevel as Level};
+    ghost use Rattle.sc_parse.specs.WordLevels.{IsWordQuiet, ReadsWordChain, ReadsWordLinks, ReadsWordOperand, tightest, word_base as base, word_level_ahead, word_looseness};
     ghost use Rattle.sc_parse.specs.Form as symbol;
-    ghost use Rattle.sc_parse.specs.Form.{◌∣◌, one, sub};
+    ghost use Rattle.sc_parse.specs.Form.{◌⨾◌, ◌∣◌, many, one, sub};
     ghost use Rattle.sc_parse.specs.Input.{input};
     ghost use Rattle.sc_parse.specs.Pieces.{IsInside, next, piece};
     ghost use Rattle.sc_parse.specs.Reads.{Fails, Reads, Takes, TakesShift, TakesWordBinary};
@@ -108,67 +110,96 @@ impl Reader<'_> {
         Ok(made)
     }
 
+    /// The level of the operator that is the next token, if it is on the same side of the shifts as `limit` and binds
+    /// no looser.
+    fn word_level_at(&self, at: usize, limit: WordLevel) -> Option<WordLevel>
+        ensures { MatchOption result
+            ((l : Level) → word_level_ahead (next (drop at (input self.now))) ≡ Some l → tightest limit ≤ word_looseness l → word_looseness limit < word_looseness l)
+            (λ l. (word_level_ahead (next (drop at (input self.now))) ≡ Some l) × (tightest limit ≤ word_looseness l) × (word_looseness l ≤ word_looseness limit)) }
+    {
+        match self.kind_at(at) {
+            Some(kind) => operators::word_within(operators::word_level(kind), limit),
+            None => None,
+        }
+    }
+
+    /// What the tightest operators on the level's side of the shifts stand between.
+    #[cycle(word)]
+    fn word_base(&self, at: &mut usize, depth: u32, level: WordLevel) -> Result<WordExpr, Fault>
+        requires within { at.old ≤ length (input self.now) }
+        requires shallow { depth ≤ 129 }
+        ensures { MatchResult result
+            (λ e. Reads (base level) depth (input self.now) at.old at.new (tree e ∷ []))
+            (Fails (base level) depth (input self.now) at.old) }
+    {
+        if operators::is_tight(level) {
+            let made = self.word_unary(at, depth)?;
+            return Ok(made);
+        }
+        let made = self.word_shift(at, depth)?;
+        Ok(made)
+    }
+
     /// What stands between the operators of the level.
     #[cycle(word)]
     fn word_operand(&self, at: &mut usize, depth: u32, level: WordLevel) -> Result<WordExpr, Fault>
         requires within { at.old ≤ length (input self.now) }
         requires shallow { depth ≤ 129 }
         ensures { MatchResult result
-            (λ e. Reads (word_operand level) depth (input self.now) at.old at.new (tree e ∷ []))
+            (λ e. ReadsWordOperand level depth (input self.now) at.old at.new (tree e))
             (Fails (word_operand level) depth (input self.now) at.old) }
     {
-        match level {
-            WordLevel::Or => {
-                let made = self.word_chain(at, depth, WordLevel::Xor)?;
+        match operators::word_tighter(level) {
+            Some(tighter) => {
+                let made = self.word_chain(at, depth, tighter)?;
                 Ok(made)
             }
-            WordLevel::Xor => {
-                let made = self.word_chain(at, depth, WordLevel::And)?;
-                Ok(made)
-            }
-            WordLevel::And => {
-                let made = self.word_chain(at, depth, WordLevel::Equal)?;
-                Ok(made)
-            }
-            WordLevel::Equal => {
-                let made = self.word_chain(at, depth, WordLevel::Less)?;
-                Ok(made)
-            }
-            WordLevel::Less => {
-                let made = self.word_shift(at, depth)?;
-                Ok(made)
-            }
-            WordLevel::Sum => {
-                let made = self.word_chain(at, depth, WordLevel::Product)?;
-                Ok(made)
-            }
-            WordLevel::Product => {
-                let made = self.word_unary(at, depth)?;
+            None => {
+                let made = self.word_base(at, depth, level)?;
                 Ok(made)
             }
         }
     }
 
-    /// Operands with the operators of the level between them.
+    /// Operators of the level, at least one, each with the operand behind it.
     #[cycle(word)]
-    fn word_chain(&self, at: &mut usize, depth: u32, level: WordLevel) -> Result<WordExpr, Fault>
+    fn word_links(
+        &self,
+        at: &mut usize,
+        depth: u32,
+        level: WordLevel,
+    ) -> Result<Vec<WordLink>, Fault>
         requires within { at.old ≤ length (input self.now) }
         requires shallow { depth ≤ 129 }
+        requires there { begins (word_operator level) (next (drop at.old (input self.now))) ≡ true }
+        requires quiet { IsWordQuiet (tightest level) (word_looseness level) (drop at.old (input self.now)) }
         ensures { MatchResult result
-            (λ e. Reads (sub (word_chain_of level)) depth (input self.now) at.old at.new (tree e ∷ []))
-            (Fails (sub (word_chain_of level)) depth (input self.now) at.old) }
+            (λ ls. ReadsWordLinks level depth (input self.now) at.old at.new ls.items)
+            (Fails (many (word_operator level ⨾ word_operand level)) depth (input self.now) at.old) }
     {
-        let first = self.word_operand(at, depth, level)?;
-        let mut links = Vec::new(self.alloc);
+        let mut links = make::room_for_one(self.alloc)?;
         'links: while self.is_word_operator(*at, level) {
             let (op, place) = self.word_operator(at, depth, level)?;
             let right = self.word_operand(at, depth, level)?;
             make::push_vec(&mut links, WordLink { op, place, right })?;
         }
-        if links.is_empty() {
-            return Ok(first);
+        Ok(links)
+    }
+
+    /// Operands with the operators of the level, and of those on its side of the shifts that bind tighter, between them.
+    #[cycle(word)]
+    fn word_chain(&self, at: &mut usize, depth: u32, level: WordLevel) -> Result<WordExpr, Fault>
+        requires within { at.old ≤ length (input self.now) }
+        requires shallow { depth ≤ 129 }
+        ensures { MatchResult result
+            (λ e. ReadsWordChain level depth (input self.now) at.old at.new (tree e))
+            (Fails (sub (word_chain_of level)) depth (input self.now) at.old) }
+    {
+        let mut made = self.word_base(at, depth, level)?;
+        'climb: while let Some(next) = self.word_level_at(*at, level) {
+            let links = self.word_links(at, depth, next)?;
+            made = make_words::links(self.alloc, next, made, links)?;
         }
-        let made = make_words::links(self.alloc, level, first, links)?;
         Ok(made)
     }
 

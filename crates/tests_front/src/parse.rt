@@ -110,7 +110,7 @@ fn sources_are_accepted_or_refused_at_their_place(rt: HostRuntime) -> Result<(),
 }
 
 /// What stands before, again and again, in the middle, again and again, and behind, how often, and the answer.
-const NESTINGS: [([&str; 5], u32, Answer); 8] = [
+const NESTINGS: [([&str; 5], u32, Answer); 10] = [
     (
         ["int main() { int x = ", "(", "0", ")", "; }"],
         126,
@@ -146,6 +146,16 @@ const NESTINGS: [([&str; 5], u32, Answer); 8] = [
         ["classical f(a) : 1 { return ", "~", "a", "", "; }"],
         128,
         Answer::TooNested(1, 156),
+    ),
+    (
+        ["classical f(a) : 1 { return ", "(", "a", ")", "; }"],
+        127,
+        Answer::Accepted,
+    ),
+    (
+        ["classical f(a) : 1 { return ", "(", "a", ")", "; }"],
+        128,
+        Answer::TooNested(1, 157),
     ),
 ];
 

@@ -46,12 +46,17 @@ expr-returns-in_err-made t c =
 pub expr-returns : goal.expr-returns
 expr-returns t c = let b = sym c.is_mark.ensures ∙ c.if-not-is_mark.false in reads_sub (reads_nested (reads_both c.in_ok-test.ensures.reads (reads_left b (reads_both c.in_ok-mark.ensures.takes.reads (reads_both c.in_ok-yes.ensures (reads_both c.in_ok-mark-2.ensures.takes.reads (c.in_ok-no.ensures))))))) (c.in_ok-made.ensures.ok _ _)
 
+pub links-returns-in_err-links : goal.links-returns-in_err-links
+links-returns-in_err-links t c =
+    let p = err_from_is_err_and c.from_residual.result c.from_residual.ensures.1 in
+    rw (p.1, p.2, c.in_err-links.ensures.err) (record { why = tt })
+
 pub links-links-init : goal.links-links-init
-links-links-init t c = chained_start c.args.level _ _ _ _ c.requires.within c.requires.quiet c.new-links.ensures.items
+links-links-init t c = chained_start c.args.level _ _ _ _ c.requires.within c.requires.quiet c.in_ok-links.ensures.ok
 
 pub links-returns-in_err-op : goal.links-returns-in_err-op
 links-returns-in_err-op t c =
-    let p = err_from_is_err_and c.from_residual.result c.from_residual.ensures.1 in let b0 = sym c.is_operator.ensures ∙ c.links-test.true in let b = link_begins c.args.level _ ∙ b0 in
+    let p = err_from_is_err_and c.from_residual-in_err-op.result c.from_residual-in_err-op.ensures.1 in let b0 = sym c.is_operator.ensures ∙ c.links-test.true in let b = link_begins c.args.level _ ∙ b0 in
     rw (p.1, p.2) (repeats_not _ _ _ _ _ _ _ c.links.invariant.repeated b (fails_first (c.in_err-op.ensures)))
 
 pub links-returns-in_err-right : goal.links-returns-in_err-right

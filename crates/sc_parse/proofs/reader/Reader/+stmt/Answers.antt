@@ -96,7 +96,7 @@ pub stmts-items-preserved : goal.stmts-items-preserved
 stmts-items-preserved t c = let b = sym c.begins.ensures ∙ c.items-test.true in rw (c.in_ok-push_vec.ensures.ok, each-append stmt) (one_later _ _ _ _ _ _ _ _ c.items.invariant b c.in_ok-next.ensures.cases)
 
 pub stmts-returns : goal.stmts-returns
-stmts-returns t c = let b = sym c.begins.ensures ∙ c.items-test.false in repeats _ _ _ _ _ _ c.items.invariant b
+stmts-returns t c = let b = sym c.begins.ensures ∙ c.items-test.false in rw c.fitted-whole.ensures (repeats _ _ _ _ _ _ c.items.invariant b)
 
 pub block-returns-in_err-place-clause-cases : goal.block-returns-in_err-place-clause-cases
 block-returns-in_err-place-clause-cases t c =

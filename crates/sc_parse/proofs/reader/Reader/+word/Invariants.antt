@@ -1,17 +1,23 @@
 use Rattle.std.proofs.Common.{◌+◌, ◌-◌, ◌*◌, length}
 use Rattle.sc_parse.specs.Input.{input}
-use Rattle.sc_parse.proofs.Levels.{word_looseness}
-use Rattle.sc_parse.proofs.WordChains.{WordChained, Shifted}
+use Rattle.sc_parse.specs.WordLevels.{tightest}
+use Rattle.sc_parse.proofs.WordChains.{WordChained, WordClimbs, Shifted}
 use Rattle.sc_parse.proofs.reader.Reader.+word.Given as goal
 
 abbrev pub decreases-word_expr : goal.decreases-word_expr
-decreases-word_expr l = 32 * (length (input l.self.now) - l.at.now) + 30
+decreases-word_expr l = 32 * (length (input l.self.now) - l.at.now) + 20
 
 abbrev pub decreases-word_operand : goal.decreases-word_operand
-decreases-word_operand l = 32 * (length (input l.self.now) - l.at.now) + 2 * word_looseness l.level + 3
+decreases-word_operand l = 32 * (length (input l.self.now) - l.at.now) + 2 * tightest l.level + 6
 
 abbrev pub decreases-word_chain : goal.decreases-word_chain
-decreases-word_chain l = 32 * (length (input l.self.now) - l.at.now) + 2 * word_looseness l.level + 4
+decreases-word_chain l = 32 * (length (input l.self.now) - l.at.now) + 2 * tightest l.level + 5
+
+abbrev pub decreases-word_base : goal.decreases-word_base
+decreases-word_base l = 32 * (length (input l.self.now) - l.at.now) + 2 * tightest l.level + 4
+
+abbrev pub decreases-word_links : goal.decreases-word_links
+decreases-word_links l = 32 * (length (input l.self.now) - l.at.now) + 3
 
 abbrev pub decreases-word_shift : goal.decreases-word_shift
 decreases-word_shift l = 32 * (length (input l.self.now) - l.at.now) + 7
@@ -22,11 +28,17 @@ decreases-word_unary l = 32 * (length (input l.self.now) - l.at.now) + 2
 abbrev pub decreases-word_prim : goal.decreases-word_prim
 decreases-word_prim l = 32 * (length (input l.self.now) - l.at.now) + 1
 
-abbrev pub invariant-word_chain-links : goal.invariant-word_chain-links
-invariant-word_chain-links l = WordChained l.level l.depth (input l.self) l.initial.at l.at l.links.items
+abbrev pub invariant-word_links-links : goal.invariant-word_links-links
+invariant-word_links-links l = WordChained l.level l.depth (input l.self) l.initial.at l.at l.links.items
 
-abbrev pub decreases-word_chain-links : goal.decreases-word_chain-links
-decreases-word_chain-links l = length (input l.self) - l.at
+abbrev pub decreases-word_links-links : goal.decreases-word_links-links
+decreases-word_links-links l = length (input l.self) - l.at
+
+abbrev pub invariant-word_chain-climb : goal.invariant-word_chain-climb
+invariant-word_chain-climb l = WordClimbs l.level l.depth (input l.self) l.initial.at l.at l.initial.made l.made
+
+abbrev pub decreases-word_chain-climb : goal.decreases-word_chain-climb
+decreases-word_chain-climb l = length (input l.self) - l.at
 
 abbrev pub invariant-word_shift-shifts : goal.invariant-word_shift-shifts
 invariant-word_shift-shifts l = Shifted l.depth (input l.self) l.initial.at l.at l.links

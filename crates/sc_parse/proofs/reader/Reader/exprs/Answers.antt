@@ -38,4 +38,4 @@ pub items-preserved : goal.items-preserved
 items-preserved c = let b = sym c.is_mark.ensures ∙ c.items-test.true in listed_more _ expr _ _ _ _ _ _ _ _ _ c.items.invariant b c.in_ok-mark.ensures.takes.reads c.in_ok-next.ensures (λ us. refl) c.in_ok-push.ensures.ok
 
 pub returns : goal.returns
-returns c = let b = sym c.is_mark.ensures ∙ c.items-test.false in listed_keeps _ expr _ _ _ _ _ _ _ _ c.in_ok-first.ensures c.items.invariant b c.in_ok-items.ensures.ok (λ us. refl)
+returns c = let b = sym c.is_mark.ensures ∙ c.items-test.false in rw (c.from_vec.ensures ∙ c.fitted-whole.ensures ∙ c.into_vec.ensures) (listed_keeps _ expr _ _ _ _ _ _ _ _ c.in_ok-first.ensures c.items.invariant b c.in_ok-items.ensures.ok (λ us. refl))
