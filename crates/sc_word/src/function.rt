@@ -90,7 +90,7 @@ fn bound(alloc: Global, words: &Words, value: &WordExpr) -> Result<TypedExpr, Wo
 }
 
 /// The returned expression, which has the width of the result.
-pub(crate) fn returned(
+fn returned(
     alloc: Global,
     words: &Words,
     result_word: &WordExpr,

@@ -17,6 +17,3 @@ pub use function::typed;
 pub use laws::values_fit;
 pub use tree::{TypedExpr, TypedLink, TypedNode, WordFault};
 pub use typed_fn::TypedFn;
-
-#[cfg(test)]
-mod tests;

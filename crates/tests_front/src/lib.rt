@@ -5,3 +5,5 @@
 mod parse;
 #[cfg(test)]
 mod value;
+#[cfg(test)]
+mod word;
