@@ -6,5 +6,7 @@ pub mod Fitting
 pub mod Naming
 pub mod Operating
 pub mod TypedRows
+pub mod Uniqueness
 pub mod Valuing
+pub mod Widths
 mod Worked

@@ -1,5 +1,5 @@
--- A typed chain holds its links in a row: what a function of the row gives, a function of the list of its links gives.
-use Rattle.std.proofs.Common.{◌≡◌, ℕ, ◌+◌, List, ap, ◌∙◌, refl}
+-- A typed chain holds its links in a row: its tree without addresses is made of the list of its links.
+use Rattle.std.proofs.Common.{◌≡◌, ap, ◌∙◌, refl}
 use mathlib.Core.Former.{Count, none_left}
 use Rattle.std.specs.declared.boxed.Box.{Box}
 use Rattle.std.specs.declared.vec.Vec.{Vec}
@@ -7,26 +7,19 @@ use Rattle.std.specs.declared.alloc.Global.{Global}
 use Rattle.sc_word.specs.declared.tree.TypedExpr.{TypedExpr}
 use Rattle.sc_word.specs.declared.tree.TypedLink.{TypedLink}
 use Rattle.sc_word.specs.declared.tree.TypedNode.{TypedNode, Chain, Chain', Row_of-TypedLink, end_of-TypedLink, more_of-TypedLink, items-the_row-TypedLink, items_hidden-the_row-TypedLink-0}
-use Rattle.sc_word.specs.Forms.{op_width}
-use Rattle.sc_word.specs.Scratch.{scratch, scratch_node, scratch_row, scratch_links, op_scratch}
+use Rattle.sc_word.specs.Pure.{PureTyped, PureTypedLinks, pure_typed, pure_typed_row, pure_typed_links}
 
 -- the links of a typed chain
 abbrev pub typed_links_of : TypedNode → (m : Count) × Row_of-TypedLink m
 typed_links_of (Chain' b x n shape row) = (_, row)
 typed_links_of _ = (none_left, end_of-TypedLink)
 
-pub over_typed_links : {A : Type 0} (f : (m : Count) → Row_of-TypedLink m → A) (g : List TypedLink → A)
-    → ((m : Count) (row : Row_of-TypedLink m) → f m row ≡ g (items-the_row-TypedLink m row))
-    → (first : Box TypedExpr Global) (links : Vec TypedLink Global)
-    → f (typed_links_of (Chain first links)).0 (typed_links_of (Chain first links)).1 ≡ g links.items
-over_typed_links f g h first links =
-    h (typed_links_of (Chain first links)).0 (typed_links_of (Chain first links)).1 ∙ ap g (items_hidden-the_row-TypedLink-0 links)
+typed_links_row : {m : _} (row : Row_of-TypedLink m) → pure_typed_row row ≡ pure_typed_links (items-the_row-TypedLink m row)
+typed_links_row end_of-TypedLink = refl
+typed_links_row (more_of-TypedLink o x n rest) = ap (PureTypedLinks.link o x (pure_typed n)) (typed_links_row rest)
 
-scratch_row_links : {m : _} (w : ℕ) (row : Row_of-TypedLink m) → scratch_row w row ≡ scratch_links w (items-the_row-TypedLink m row)
-scratch_row_links w end_of-TypedLink = refl
-scratch_row_links w (more_of-TypedLink o x n rest) = ap (λ k. scratch_node x n + op_scratch o w + k) (scratch_row_links (op_width o w) rest)
-
-pub scratch_chain : (w : ℕ) (first : Box TypedExpr Global) (links : Vec TypedLink Global)
-    → scratch_node w (Chain first links) ≡ scratch first.value + scratch_links first.value.width links.items
-scratch_chain w first links =
-    ap (λ k. scratch first.value + k) (over_typed_links (λ m row. scratch_row first.value.width row) (scratch_links first.value.width) (λ m row. scratch_row_links first.value.width row) first links)
+pub pure_typed_chain : (first : Box TypedExpr Global) (links : Vec TypedLink Global)
+    → pure_typed (Chain first links) ≡ PureTyped.chain first.value.width (pure_typed first.value.node) (pure_typed_links links.items)
+pure_typed_chain first links =
+    ap (PureTyped.chain first.value.width (pure_typed first.value.node))
+    (typed_links_row (typed_links_of (Chain first links)).1 ∙ ap pure_typed_links (items_hidden-the_row-TypedLink-0 links))

@@ -7,8 +7,7 @@ use Rattle.std.proofs.Math.Pow.{pow_mono, ones_sub-lt}
 use Rattle.sc_syntax.specs.declared.WordOp.{WordOp}
 use Rattle.sc_syntax.specs.declared.WordOp.TheVariants as op
 use Rattle.sc_syntax.specs.declared.ShiftLink.{ShiftLink}
-use Rattle.sc_word.specs.declared.tree.TypedExpr.{TypedExpr}
-use Rattle.sc_word.specs.declared.tree.TypedNode.{TypedNode, Literal, Word, Not', Chain', Shift', Pick', Ext', Low', Row_of-TypedLink, end_of-TypedLink, more_of-TypedLink}
+use Rattle.sc_word.specs.Pure.{PureTyped, PureTypedLinks, PureTypedExpr}
 use Rattle.sc_word.specs.Forms.{amount, op_width}
 use Rattle.sc_word.specs.Fits.{TypedAs, TypedRow, TypedAll}
 use Rattle.sc_word.specs.Value.{truth, op_value, shift_value, shifts_value, picked, value_node, value_row, value, value_all, AreValues}
@@ -50,22 +49,22 @@ picked_below zero a b m h k = k
 picked_below (suc c) a b m h k = h
 
 mutual
-  node_below : (values widths : List ℕ) (w : ℕ) (n : TypedNode) → AreValues values widths → TypedAs widths w n → value_node values w n < 2 ^ w
-  node_below values widths w (Literal v) a h = h.fits
-  node_below values widths w (Word i) a h = subst (λ x. slice_index values i < 2 ^ x) h.1 (below_there values widths i a h.0)
-  node_below values widths w (Not' b x n) a h = ones_sub-lt w (value_node values x n)
-  node_below values widths w (Chain' b x n shape row) a h = row_below values widths x w row (value_node values x n) a (node_below values widths x n a h.0) h.1
-  node_below values widths w (Shift' b x n links) a h = shifts_below w links (value_node values x n) (subst (λ y. value_node values x n < 2 ^ y) h.1 (node_below values widths x n a h.0))
-  node_below values widths w (Pick' b x n c y m d z o) a h =
+  node_below : (values widths : List ℕ) (w : ℕ) (n : PureTyped) → AreValues values widths → TypedAs widths w n → value_node values w n < 2 ^ w
+  node_below values widths w (PureTyped.literal v) a h = h.fits
+  node_below values widths w (PureTyped.word i) a h = subst (λ x. slice_index values i < 2 ^ x) h.1 (below_there values widths i a h.0)
+  node_below values widths w (PureTyped.not x n) a h = ones_sub-lt w (value_node values x n)
+  node_below values widths w (PureTyped.chain x n row) a h = row_below values widths x w row (value_node values x n) a (node_below values widths x n a h.0) h.1
+  node_below values widths w (PureTyped.shift x n links) a h = shifts_below w links (value_node values x n) (subst (λ y. value_node values x n < 2 ^ y) h.1 (node_below values widths x n a h.0))
+  node_below values widths w (PureTyped.pick x n y m z o) a h =
       picked_below (value_node values x n) (value_node values y m) (value_node values z o) (2 ^ w)
       (subst (λ k. value_node values y m < 2 ^ k) h.3 (node_below values widths y m a h.2))
       (subst (λ k. value_node values z o < 2 ^ k) h.5 (node_below values widths z o a h.4))
-  node_below values widths w (Ext' b x n) a h = omega (arith, node_below values widths x n a h.0, pow_mono h.1)
-  node_below values widths w (Low' b x n) a h = mod-lt (value_node values x n) (pow_pos w)
+  node_below values widths w (PureTyped.ext x n) a h = omega (arith, node_below values widths x n a h.0, pow_mono h.1)
+  node_below values widths w (PureTyped.low x n) a h = mod-lt (value_node values x n) (pow_pos w)
 
-  row_below : {k : _} (values widths : List ℕ) (w last : ℕ) (row : Row_of-TypedLink k) (a : ℕ) → AreValues values widths → a < 2 ^ w → TypedRow widths w last row → value_row values w a row < 2 ^ last
-  row_below values widths w last end_of-TypedLink a v h t = subst (λ x. a < 2 ^ x) t h
-  row_below values widths w last (more_of-TypedLink o x n rest) a v h t =
+  row_below : (values widths : List ℕ) (w last : ℕ) (row : PureTypedLinks) (a : ℕ) → AreValues values widths → a < 2 ^ w → TypedRow widths w last row → value_row values w a row < 2 ^ last
+  row_below values widths w last PureTypedLinks.no_links a v h t = subst (λ x. a < 2 ^ x) t h
+  row_below values widths w last (PureTypedLinks.link o x n rest) a v h t =
       row_below values widths (op_width o w) last rest (op_value o w a (value_node values x n)) v
       (op_below o w a (value_node values x n) h (subst (λ y. value_node values x n < 2 ^ y) t.1 (node_below values widths x n v t.0))) t.3
 
@@ -75,7 +74,7 @@ values_push [] (x ∷ widths) v w a h = absurd a
 values_push (u ∷ values) [] v w a h = absurd a
 values_push (u ∷ values) (x ∷ widths) v w a h = (a.0, values_push values widths v w a.1 h)
 
-pub value_all_below : (widths values : List ℕ) (binds : List TypedExpr) (e : TypedExpr) → AreValues values widths → TypedAll widths binds e → value_all values binds e < 2 ^ e.width
+pub value_all_below : (widths values : List ℕ) (binds : List PureTypedExpr) (e : PureTypedExpr) → AreValues values widths → TypedAll widths binds e → value_all values binds e < 2 ^ e.width
 value_all_below widths values [] e a h = node_below values widths e.width e.node a h
 value_all_below widths values (b ∷ binds) e a h =
     value_all_below (widths ++ b.width ∷ []) (values ++ value values b ∷ []) binds e

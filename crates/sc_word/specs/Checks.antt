@@ -8,13 +8,12 @@ use Rattle.sc_syntax.specs.declared.WordOp.TheVariants as op
 use Rattle.sc_syntax.specs.declared.ShiftLink.{ShiftLink}
 use Rattle.sc_syntax.specs.declared.WordFn.{WordFn}
 use Rattle.sc_syntax.specs.declared.WordParam.{WordParam}
-use Rattle.sc_syntax.specs.declared.Bind.{Bind}
-use Rattle.sc_syntax.specs.declared.WordExpr.{WordExpr}
-use Rattle.sc_syntax.specs.declared.WordNode.{WordNode, Int, Name, Paren', Not', Chain', Shift', Pick', Ext', Low', Row_of-WordLink, end_of-WordLink, more_of-WordLink}
+use Rattle.sc_syntax.specs.Alike.{PureWord, PureWordLinks, PureWordExpr, PureBind}
 use Rattle.sc_word.specs.declared.operand.Form.{Form}
 use Rattle.sc_word.specs.declared.operand.Form.TheVariants.{Bare, Wide}
 use Rattle.sc_word.specs.declared.tree.WordFault.{WordFault}
 use Rattle.sc_word.specs.declared.tree.WordFault.TheVariants.{UnknownName, Redefined, BadWidth}
+use Rattle.sc_word.specs.Pure.{PureWordFn, pure_word_fn}
 use Rattle.sc_word.specs.Words.{Words, Named, number_of}
 use Rattle.sc_word.specs.Forms.{amount, own_width, shared, op_width, form_node, form}
 
@@ -94,28 +93,28 @@ low_checks at a width =
 -- ---- an expression: the operands from left to right, the bare literals among them, then the other widths
 
 abbrev mutual
-  pub checks_node : Words → Place → WordNode → List Check
-  checks_node ws at (Int n) = []
-  checks_node ws at (Name t) = is_known at (number_of ws t) ∷ []
-  checks_node ws at (Paren' b p n) = checks_node ws p n
-  checks_node ws at (Not' b p n) = checks_node ws p n ++ no_literal p (form_node ws n) ∷ []
-  checks_node ws at (Chain' b p n shape row) = checks_node ws p n ++ checks_row ws at p (form_node ws n) row
-  checks_node ws at (Shift' b p n links) = checks_node ws p n ++ no_literal p (form_node ws n) ∷ map shift_fits links
-  checks_node ws at (Pick' b1 p1 n1 b2 p2 n2 b3 p3 n3) =
+  pub checks_node : Words → Place → PureWord → List Check
+  checks_node ws at (PureWord.int n) = []
+  checks_node ws at (PureWord.name t) = is_known at (number_of ws t) ∷ []
+  checks_node ws at (PureWord.paren p n) = checks_node ws p n
+  checks_node ws at (PureWord.not p n) = checks_node ws p n ++ no_literal p (form_node ws n) ∷ []
+  checks_node ws at (PureWord.chain p n links) = checks_node ws p n ++ checks_row ws at p (form_node ws n) links
+  checks_node ws at (PureWord.shift p n links) = checks_node ws p n ++ no_literal p (form_node ws n) ∷ map shift_fits links
+  checks_node ws at (PureWord.pick p1 n1 p2 n2 p3 n3) =
       checks_node ws p1 n1 ++ (checks_node ws p2 n2 ++ (checks_node ws p3 n3 ++
       (bare_test p1 (form_node ws n1) ∷ meet p1 p2 (form_node ws n2) p3 (form_node ws n3) ∷ wide_test p1 (form_node ws n1) ∷ [])))
-  checks_node ws at (Ext' b p n w) = checks_node ws p n ++ ext_checks p (form_node ws n) w
-  checks_node ws at (Low' b p n w) = checks_node ws p n ++ low_checks p (form_node ws n) w
+  checks_node ws at (PureWord.ext p n w) = checks_node ws p n ++ ext_checks p (form_node ws n) w
+  checks_node ws at (PureWord.low p n w) = checks_node ws p n ++ low_checks p (form_node ws n) w
 
   -- the operators of a chain, of which the first token is at `at` and the first operand at `p`
-  pub checks_row : {m : _} → Words → Place → Place → Form → Row_of-WordLink m → List Check
+  pub checks_row : Words → Place → Place → Form → PureWordLinks → List Check
   -- (after an operator stands no bare literal to its left)
-  checks_row ws at p a end_of-WordLink = no_literal p a ∷ []
-  checks_row ws at p a (more_of-WordLink o place q n rest) =
+  checks_row ws at p a PureWordLinks.no_links = no_literal p a ∷ []
+  checks_row ws at p a (PureWordLinks.link o place q n rest) =
       checks_node ws q n ++ (meet at p a q (form_node ws n) ∷ op_fits at o (shared a (form_node ws n))
       ∷ checks_row ws at p (Wide (op_width o (shared a (form_node ws n)))) rest)
 
-abbrev pub checks_expr : Words → WordExpr → List Check
+abbrev pub checks_expr : Words → PureWordExpr → List Check
 checks_expr ws e = checks_node ws e.place e.node
 
 -- ---- a function: the parameters, the width of the result, the bindings, the returned expression
@@ -124,7 +123,7 @@ abbrev pub param_word : WordParam → Named
 param_word p = record { name = p.name.text; width = amount p.width }
 
 -- a bound name has the width of its expression
-abbrev pub bind_word : Words → Bind → Named
+abbrev pub bind_word : Words → PureBind → Named
 bind_word ws b = record { name = b.name.text; width = own_width (form ws b.value) }
 
 abbrev pub checks_params : Words → List WordParam → List Check
@@ -137,14 +136,18 @@ result_fits at (Bare v) w = literal_fits at v w
 result_fits at (Wide x) w = width_rule at (nat_eq x w)
 
 -- in a binding the expression stands before the name
-abbrev pub checks_binds : Words → List Bind → WordExpr → ℕ → List Check
+abbrev pub checks_binds : Words → List PureBind → PureWordExpr → ℕ → List Check
 checks_binds ws [] result w = checks_expr ws result ++ result_fits result.place (form ws result) w ∷ []
 checks_binds ws (b ∷ bs) result w =
     checks_expr ws b.value ++ (no_literal b.value.place (form ws b.value) ∷ is_new ws b.name
     ∷ checks_binds (ws ++ bind_word ws b ∷ []) bs result w)
 
+-- the checks of a classical function without addresses
+abbrev pub checks_fn : PureWordFn → List Check
+checks_fn f = checks_params [] f.params ++ (in_bounds f.width ∷ checks_binds (map param_word f.params) f.binds f.result (amount f.width))
+
 abbrev pub checks : WordFn → List Check
-checks f = checks_params [] f.params ++ (in_bounds f.width ∷ checks_binds (map param_word f.params) f.binds f.result (amount f.width))
+checks f = checks_fn (pure_word_fn f)
 
 -- the fault of a classical function, its own name aside
 abbrev pub fault : WordFn → Option WordFault

@@ -1,11 +1,9 @@
 -- The width of a word expression, and which expressions are bare literals.
-use Rattle.std.specs.Prelude.{ℕ, unsigned_abs, List, [], ◌∷◌}
+use Rattle.std.specs.Prelude.{ℕ, unsigned_abs}
 use Rattle.sc_syntax.specs.declared.Width.{Width}
 use Rattle.sc_syntax.specs.declared.WordOp.{WordOp}
 use Rattle.sc_syntax.specs.declared.WordOp.TheVariants as op
-use Rattle.sc_syntax.specs.declared.WordExpr.{WordExpr}
-use Rattle.sc_syntax.specs.declared.WordLink.{WordLink}
-use Rattle.sc_syntax.specs.declared.WordNode.{WordNode, Int, Name, Paren', Not', Chain', Shift', Pick', Ext', Low', Row_of-WordLink, end_of-WordLink, more_of-WordLink}
+use Rattle.sc_syntax.specs.Alike.{PureWord, PureWordLinks, PureWordExpr}
 use Rattle.sc_word.specs.declared.operand.Form.{Form}
 use Rattle.sc_word.specs.declared.operand.Form.TheVariants.{Bare, Wide}
 use Rattle.sc_word.specs.Words.{Words, width_named}
@@ -32,26 +30,21 @@ op_width _ w = w
 
 -- a bare literal is a number, also in parentheses; all else is a word of a width
 abbrev mutual
-  pub form_node : Words → WordNode → Form
-  form_node ws (Int n) = Bare (unsigned_abs n)
-  form_node ws (Name t) = Wide (width_named ws t)
-  form_node ws (Paren' b p n) = form_node ws n
-  form_node ws (Not' b p n) = Wide (own_width (form_node ws n))
-  form_node ws (Chain' b p n shape row) = Wide (row_width ws (form_node ws n) row)
-  form_node ws (Shift' b p n links) = Wide (own_width (form_node ws n))
-  form_node ws (Pick' b1 p1 n1 b2 p2 n2 b3 p3 n3) = Wide (shared (form_node ws n2) (form_node ws n3))
-  form_node ws (Ext' b p n w) = Wide (amount w)
-  form_node ws (Low' b p n w) = Wide (amount w)
+  pub form_node : Words → PureWord → Form
+  form_node ws (PureWord.int n) = Bare (unsigned_abs n)
+  form_node ws (PureWord.name t) = Wide (width_named ws t)
+  form_node ws (PureWord.paren p n) = form_node ws n
+  form_node ws (PureWord.not p n) = Wide (own_width (form_node ws n))
+  form_node ws (PureWord.chain p n links) = Wide (row_width ws (form_node ws n) links)
+  form_node ws (PureWord.shift p n links) = Wide (own_width (form_node ws n))
+  form_node ws (PureWord.pick p1 n1 p2 n2 p3 n3) = Wide (shared (form_node ws n2) (form_node ws n3))
+  form_node ws (PureWord.ext p n w) = Wide (amount w)
+  form_node ws (PureWord.low p n w) = Wide (amount w)
 
   -- a chain is grouped from the left
-  pub row_width : {m : _} → Words → Form → Row_of-WordLink m → ℕ
-  row_width ws a end_of-WordLink = own_width a
-  row_width ws a (more_of-WordLink o at p n rest) = row_width ws (Wide (op_width o (shared a (form_node ws n)))) rest
+  pub row_width : Words → Form → PureWordLinks → ℕ
+  row_width ws a PureWordLinks.no_links = own_width a
+  row_width ws a (PureWordLinks.link o at p n rest) = row_width ws (Wide (op_width o (shared a (form_node ws n)))) rest
 
-abbrev pub form : Words → WordExpr → Form
+abbrev pub form : Words → PureWordExpr → Form
 form ws e = form_node ws e.node
-
--- the same over the links as a list
-abbrev pub links_width : Words → Form → List WordLink → ℕ
-links_width ws a [] = own_width a
-links_width ws a (l ∷ ls) = links_width ws (Wide (op_width l.op (shared a (form ws l.right)))) ls

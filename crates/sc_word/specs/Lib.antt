@@ -1,8 +1,11 @@
 pub mod Checks
+pub mod Codes
 pub mod Fits
 pub mod Forms
 pub mod Functions
+pub mod Once
 pub mod Operands
+pub mod Pure
 pub mod Scratch
 pub mod Typed
 pub mod Value

@@ -8,9 +8,9 @@ use Rattle.sc_syntax.specs.declared.WordOp.{WordOp}
 use Rattle.sc_syntax.specs.declared.ShiftLink.{ShiftLink}
 use Rattle.sc_syntax.specs.declared.WordParam.{WordParam}
 use Rattle.sc_syntax.specs.declared.Bind.{Bind}
-use Rattle.sc_syntax.specs.declared.WordExpr.{WordExpr}
 use Rattle.sc_syntax.specs.declared.WordLink.{WordLink}
-use Rattle.sc_syntax.specs.declared.WordNode.{WordNode, Int, Name, Paren', Not', Chain', Shift', Pick', Ext', Low', Row_of-WordLink, end_of-WordLink, more_of-WordLink}
+use Rattle.sc_syntax.specs.Alike.{PureWord, PureWordLinks, PureWordExpr, pure_word_expr, pure_bind, pure_word_link_list}
+use Rattle.sc_syntax.specs.declared.WordExpr.{WordExpr}
 use Rattle.sc_word.specs.declared.operand.Form.{Form}
 use Rattle.sc_word.specs.declared.operand.Form.TheVariants.{Bare, Wide}
 use Rattle.sc_word.specs.declared.operand.Operand.{Operand}
@@ -18,14 +18,16 @@ use Rattle.sc_word.specs.declared.operand.Operand.TheVariants as operand
 use Rattle.sc_word.specs.declared.tree.TypedExpr.{TypedExpr}
 use Rattle.sc_word.specs.declared.tree.TypedLink.{TypedLink}
 use Rattle.sc_word.specs.declared.tree.TypedNode as typed
-use Rattle.sc_word.specs.declared.tree.TypedNode.{TypedNode, Literal}
+use Rattle.sc_word.specs.declared.tree.TypedNode.{Literal}
 use Rattle.sc_word.specs.declared.chain.Chain.{Chain}
 use Rattle.sc_word.specs.declared.chain.Chain.TheVariants.{Start, Joined}
 use Rattle.sc_word.specs.declared.tree.WordFault.{WordFault}
 use Rattle.sc_word.specs.Words.{Words, number_of, width_at, widths_of, AreWidths}
-use Rattle.sc_word.specs.Forms.{amount, own_width, shared, op_width, form_node, form, links_width}
+use Rattle.sc_word.specs.Forms.{amount, own_width, shared, op_width, form_node, form, row_width}
 use Rattle.sc_word.specs.Checks.{first_fault, is_known, is_new, bind_word, param_word, checks_params, result_fits, no_literal, shift_fits, bare_test, meet, wide_test, ext_checks, low_checks, op_fits}
-use Rattle.sc_word.specs.Typed.{TypesAs, TypesExpr, TypesBinds, OpFits}
+use Rattle.sc_word.specs.Pure.{PureTypedExpr, pure_typed, pure_typed_expr, pure_typed_links}
+use Rattle.sc_word.specs.Scratch.{scratch}
+use Rattle.sc_word.specs.Typed.{TypesAs, TypesRow, TypesExpr, TypesBinds, AreDeclared}
 
 -- the first of two faults, where there is one
 abbrev pub or_else : Option WordFault → Option WordFault → Option WordFault
@@ -34,34 +36,27 @@ or_else (Some f) b = Some f
 
 -- the first fault of an expression
 abbrev mutual
-  pub fault_node : Words → Place → WordNode → Option WordFault
-  fault_node ws at (Int n) = None
-  fault_node ws at (Name t) = first_fault (is_known at (number_of ws t) ∷ [])
-  fault_node ws at (Paren' b p n) = fault_node ws p n
-  fault_node ws at (Not' b p n) = or_else (fault_node ws p n) (first_fault (no_literal p (form_node ws n) ∷ []))
-  fault_node ws at (Chain' b p n shape row) = or_else (fault_node ws p n) (fault_row ws at p (form_node ws n) row)
-  fault_node ws at (Shift' b p n links) = or_else (fault_node ws p n) (first_fault (no_literal p (form_node ws n) ∷ map shift_fits links))
-  fault_node ws at (Pick' b1 p1 n1 b2 p2 n2 b3 p3 n3) =
+  pub fault_node : Words → Place → PureWord → Option WordFault
+  fault_node ws at (PureWord.int n) = None
+  fault_node ws at (PureWord.name t) = first_fault (is_known at (number_of ws t) ∷ [])
+  fault_node ws at (PureWord.paren p n) = fault_node ws p n
+  fault_node ws at (PureWord.not p n) = or_else (fault_node ws p n) (first_fault (no_literal p (form_node ws n) ∷ []))
+  fault_node ws at (PureWord.chain p n links) = or_else (fault_node ws p n) (fault_row ws at p (form_node ws n) links)
+  fault_node ws at (PureWord.shift p n links) = or_else (fault_node ws p n) (first_fault (no_literal p (form_node ws n) ∷ map shift_fits links))
+  fault_node ws at (PureWord.pick p1 n1 p2 n2 p3 n3) =
       or_else (fault_node ws p1 n1) (or_else (fault_node ws p2 n2) (or_else (fault_node ws p3 n3)
       (first_fault (bare_test p1 (form_node ws n1) ∷ meet p1 p2 (form_node ws n2) p3 (form_node ws n3) ∷ wide_test p1 (form_node ws n1) ∷ []))))
-  fault_node ws at (Ext' b p n w) = or_else (fault_node ws p n) (first_fault (ext_checks p (form_node ws n) w))
-  fault_node ws at (Low' b p n w) = or_else (fault_node ws p n) (first_fault (low_checks p (form_node ws n) w))
+  fault_node ws at (PureWord.ext p n w) = or_else (fault_node ws p n) (first_fault (ext_checks p (form_node ws n) w))
+  fault_node ws at (PureWord.low p n w) = or_else (fault_node ws p n) (first_fault (low_checks p (form_node ws n) w))
 
-  pub fault_row : {m : _} → Words → Place → Place → Form → Row_of-WordLink m → Option WordFault
-  fault_row ws at p a end_of-WordLink = first_fault (no_literal p a ∷ [])
-  fault_row ws at p a (more_of-WordLink o place q n rest) =
+  pub fault_row : Words → Place → Place → Form → PureWordLinks → Option WordFault
+  fault_row ws at p a PureWordLinks.no_links = first_fault (no_literal p a ∷ [])
+  fault_row ws at p a (PureWordLinks.link o place q n rest) =
       or_else (fault_node ws q n) (or_else (first_fault (meet at p a q (form_node ws n) ∷ op_fits at o (shared a (form_node ws n)) ∷ []))
       (fault_row ws at p (Wide (op_width o (shared a (form_node ws n)))) rest))
 
-abbrev pub fault_expr : Words → WordExpr → Option WordFault
+abbrev pub fault_expr : Words → PureWordExpr → Option WordFault
 fault_expr ws e = fault_node ws e.place e.node
-
--- the same over the links as a list
-abbrev pub fault_links : Words → Place → Place → Form → List WordLink → Option WordFault
-fault_links ws at p a [] = first_fault (no_literal p a ∷ [])
-fault_links ws at p a (l ∷ ls) =
-    or_else (fault_expr ws l.right) (or_else (first_fault (meet at p a l.right.place (form ws l.right) ∷ op_fits at l.op (shared a (form ws l.right)) ∷ []))
-    (fault_links ws at p (Wide (op_width l.op (shared a (form ws l.right)))) ls))
 
 -- ---- operands
 
@@ -74,12 +69,12 @@ abbrev pub with_width : ℕ → Operand → TypedExpr
 with_width w (operand.Bare v) = record { width = w; node = Literal v }
 with_width w (operand.Word t) = t
 
-abbrev pub TypesOperand : Words → WordNode → Operand → Type 0
+abbrev pub TypesOperand : Words → PureWord → Operand → Type 0
 TypesOperand ws n (operand.Bare v) = Unit {0}
-TypesOperand ws n (operand.Word t) = TypesAs ws n t.width t.node
+TypesOperand ws n (operand.Word t) = TypesAs ws n t.width (pure_typed t.node)
 
 -- the operand is that of the node, in which there is no fault
-pub record Walked (ws : Words) (at : Place) (n : WordNode) (o : Operand) : Type 0 where
+pub record WalkedWord (ws : Words) (at : Place) (n : PureWord) (o : Operand) : Type 0 where
   pub fault : fault_node ws at n ≡ None
   pub form : form_of o ≡ form_node ws n
   pub tree : TypesOperand ws n o
@@ -145,16 +140,14 @@ pub record IsChain (chain : Chain) (r : Operand) : Type 0 where
   pub items : links.items ≡ links_of chain
   pub is : r ≡ operand.Word (record { width = own_width (chain_form chain); node = typed.Chain word links })
 
--- the links of the source and the typed ones, where what stands to the left has the width x and the whole has the width w
-abbrev pub LinksAs : Words → ℕ → ℕ → List WordLink → List TypedLink → Type 0
-LinksAs ws x w [] [] = x ≡ w
-LinksAs ws x w (l ∷ ls) (t ∷ ts) =
-    (l.op ≡ t.op) × TypesExpr ws l.right t.right × (t.right.width ≡ x) × OpFits l.op x × LinksAs ws (op_width l.op x) w ls ts
-LinksAs _ _ _ _ _ = ⊥
+-- the links of the source and the typed ones, where what stands to the left has this form and takes the width x, and the whole has the width w
+abbrev pub LinksAs : Words → Form → ℕ → ℕ → List WordLink → List TypedLink → Type 0
+LinksAs ws a x w links typed = TypesRow ws a (pure_word_link_list links) x w (pure_typed_links typed)
 
-abbrev pub InChain : Words → WordNode → List WordLink → Chain → Type 0
+abbrev pub InChain : Words → PureWord → List WordLink → Chain → Type 0
 InChain ws n done (Start o) = (done ≡ []) × (form_of o ≡ form_node ws n) × TypesOperand ws n o
-InChain ws n done (Joined first links w) = TypesAs ws n first.width first.node × LinksAs ws first.width w done links.items
+InChain ws n done (Joined first links w) =
+    TypesAs ws n first.width (pure_typed first.node) × LinksAs ws (form_node ws n) first.width w done links.items
 
 -- ---- names
 
@@ -169,38 +162,44 @@ pub record IsKnown (ws : Words) (name : List ℕ) (o : Operand) : Type 0 where
   pub is : o ≡ operand.Word (record { width = width_at ws number; node = typed.Word number })
 
 -- after some links of a chain: its operators so far, and what the rest comes to
-pub record Chained (ws : Words) (at : Place) (p : Place) (n : WordNode) (done rest all : List WordLink) (chain : Chain) : Type 0 where
+pub record Chained (ws : Words) (at : Place) (p : Place) (n : PureWord) (done rest all : List WordLink) (chain : Chain) : Type 0 where
   pub so_far : InChain ws n done chain
-  pub fault : fault_links ws at p (chain_form chain) rest ≡ fault_links ws at p (form_node ws n) all
-  pub width : links_width ws (chain_form chain) rest ≡ links_width ws (form_node ws n) all
+  pub fault : fault_row ws at p (chain_form chain) (pure_word_link_list rest) ≡ fault_row ws at p (form_node ws n) (pure_word_link_list all)
+  pub width : row_width ws (chain_form chain) (pure_word_link_list rest) ≡ row_width ws (form_node ws n) (pure_word_link_list all)
 
 -- ---- functions
 
+-- the scratch qubits of a typed expression
+abbrev pub used : TypedExpr → ℕ
+used e = scratch (pure_typed_expr e)
+
 -- the first fault of the bindings and the returned expression
 abbrev pub fault_binds : Words → List Bind → WordExpr → ℕ → Option WordFault
-fault_binds ws [] result w = or_else (fault_expr ws result) (first_fault (result_fits result.place (form ws result) w ∷ []))
+fault_binds ws [] result w =
+    or_else (fault_expr ws (pure_word_expr result)) (first_fault (result_fits result.place (form ws (pure_word_expr result)) w ∷ []))
 fault_binds ws (b ∷ bs) result w =
-    or_else (fault_expr ws b.value) (or_else (first_fault (no_literal b.value.place (form ws b.value) ∷ is_new ws b.name ∷ []))
-    (fault_binds (ws ++ bind_word ws b ∷ []) bs result w))
+    or_else (fault_expr ws (pure_word_expr b.value)) (or_else (first_fault (no_literal b.value.place (form ws (pure_word_expr b.value)) ∷ is_new ws b.name ∷ []))
+    (fault_binds (ws ++ bind_word ws (pure_bind b) ∷ []) bs result w))
 
 -- the typed expression of a binding
-pub record Bound (ws : Words) (e : WordExpr) (t : TypedExpr) : Type 0 where
+pub record Bound (ws : Words) (e : PureWordExpr) (t : TypedExpr) : Type 0 where
   pub fault : or_else (fault_expr ws e) (first_fault (no_literal e.place (form ws e) ∷ [])) ≡ None
-  pub width : own_width (form ws e) ≡ t.width
-  pub tree : TypesExpr ws e t
+  pub width : form ws e ≡ Wide t.width
+  pub tree : TypesExpr ws e (pure_typed_expr t)
 
 -- the typed expression that is returned
-pub record Returned (ws : Words) (e : WordExpr) (w : ℕ) (t : TypedExpr) : Type 0 where
+pub record Returned (ws : Words) (e : PureWordExpr) (w : ℕ) (t : TypedExpr) : Type 0 where
   pub fault : or_else (fault_expr ws e) (first_fault (result_fits e.place (form ws e) w ∷ [])) ≡ None
   pub width : t.width ≡ w
-  pub tree : TypesExpr ws e t
+  pub tree : TypesExpr ws e (pure_typed_expr t)
 
 -- after some bindings: what the rest comes to
 pub record GoesOn (from : Words) (all : List Bind) (made : List TypedExpr) (ws : Words) (rest : List Bind) (result : WordExpr) (w : ℕ) : Type 0 where
   pub scope : AreWidths (widths_of ws)
   pub count : length ws + length rest ≤ length from + length all
   pub fault : fault_binds ws rest result w ≡ fault_binds from all result w
-  pub trees : (more : List TypedExpr) (t : TypedExpr) → TypesBinds ws rest result more t → TypesBinds from all result (made ++ more) t
+  pub trees : (more : List PureTypedExpr) (t : PureTypedExpr) → TypesBinds ws (map pure_bind rest) (pure_word_expr result) more t
+      → TypesBinds from (map pure_bind all) (pure_word_expr result) (map pure_typed_expr made ++ more) t
 
 -- after some parameters: the words and widths so far, and what the rest comes to
 pub record Declaring (done rest all : List WordParam) (ws : Words) (widths : List ℕ) : Type 0 where
@@ -208,3 +207,4 @@ pub record Declaring (done rest all : List WordParam) (ws : Words) (widths : Lis
   pub widths_are : widths ≡ map (λ p. amount p.width) done
   pub bounds : AreWidths (widths_of ws)
   pub fault : first_fault (checks_params ws rest) ≡ first_fault (checks_params [] all)
+  pub declared : AreDeclared ws rest → AreDeclared [] all

@@ -1,11 +1,9 @@
 -- How many scratch qubits the gates of a classical function use.
-use Rattle.std.specs.Prelude.{ℕ, ◌+◌, ◌-◌, ◌*◌, min, List, [], ◌∷◌, sum_by}
+use Rattle.std.specs.Prelude.{ℕ, ◌+◌, ◌-◌, ◌*◌, min, sum, sum_by}
 use Rattle.sc_syntax.specs.declared.WordOp.{WordOp}
 use Rattle.sc_syntax.specs.declared.WordOp.TheVariants as op
 use Rattle.sc_syntax.specs.declared.ShiftLink.{ShiftLink}
-use Rattle.sc_word.specs.declared.tree.TypedExpr.{TypedExpr}
-use Rattle.sc_word.specs.declared.tree.TypedLink.{TypedLink}
-use Rattle.sc_word.specs.declared.tree.TypedNode.{TypedNode, Literal, Word, Not', Chain', Shift', Pick', Ext', Low', Row_of-TypedLink, end_of-TypedLink, more_of-TypedLink}
+use Rattle.sc_word.specs.Pure.{PureTyped, PureTypedLinks, PureTypedExpr}
 use Rattle.sc_word.specs.Forms.{amount, op_width}
 use Rattle.sc_word.specs.Typed.{TypedWords}
 
@@ -34,29 +32,28 @@ shift_scratch w link = min (amount link.by) w
 
 -- what a node of width w uses, its operands' with it
 abbrev mutual
-  pub scratch_node : ℕ → TypedNode → ℕ
-  scratch_node w (Literal v) = w
-  scratch_node w (Word i) = 0
-  scratch_node w (Not' b x n) = scratch_node x n + w
-  scratch_node w (Chain' b x n shape row) = scratch_node x n + scratch_row x row
-  scratch_node w (Shift' b x n links) = scratch_node x n + sum_by (shift_scratch w) links
-  scratch_node w (Pick' b x n c y m d z o) = scratch_node x n + scratch_node y m + scratch_node z o + (w + w)
-  scratch_node w (Ext' b x n) = scratch_node x n + (w - x)
-  scratch_node w (Low' b x n) = scratch_node x n
+  pub scratch_node : ℕ → PureTyped → ℕ
+  scratch_node w (PureTyped.literal v) = w
+  scratch_node w (PureTyped.word i) = 0
+  scratch_node w (PureTyped.not x n) = scratch_node x n + w
+  scratch_node w (PureTyped.chain x n links) = scratch_node x n + scratch_row x links
+  scratch_node w (PureTyped.shift x n links) = scratch_node x n + sum_by (shift_scratch w) links
+  scratch_node w (PureTyped.pick x n y m z o) = scratch_node x n + scratch_node y m + scratch_node z o + (w + w)
+  scratch_node w (PureTyped.ext x n) = scratch_node x n + (w - x)
+  scratch_node w (PureTyped.low x n) = scratch_node x n
 
   -- the links of a chain, where what stands to the left has the width w
-  pub scratch_row : {k : _} → ℕ → Row_of-TypedLink k → ℕ
-  scratch_row w end_of-TypedLink = 0
-  scratch_row w (more_of-TypedLink o x n rest) = scratch_node x n + op_scratch o w + scratch_row (op_width o w) rest
+  pub scratch_row : ℕ → PureTypedLinks → ℕ
+  scratch_row w PureTypedLinks.no_links = 0
+  scratch_row w (PureTypedLinks.link o x n rest) = scratch_node x n + op_scratch o w + scratch_row (op_width o w) rest
 
-abbrev pub scratch : TypedExpr → ℕ
+abbrev pub scratch : PureTypedExpr → ℕ
 scratch e = scratch_node e.width e.node
 
 -- the bindings and the returned expression
 abbrev pub fn_scratch : TypedWords → ℕ
 fn_scratch t = sum_by scratch t.binds + scratch t.returned
 
--- the same over the links as a list
-abbrev pub scratch_links : ℕ → List TypedLink → ℕ
-scratch_links w [] = 0
-scratch_links w (l ∷ ls) = scratch l.right + op_scratch l.op w + scratch_links (op_width l.op w) ls
+-- the wires of its gates: those of the parameters, of the output, and the scratch
+abbrev pub fn_wires : TypedWords → ℕ
+fn_wires t = sum t.params + (t.returned.width + fn_scratch t)

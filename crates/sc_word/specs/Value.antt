@@ -3,11 +3,10 @@ use Rattle.std.specs.Prelude.{ℕ, zero, suc, ◌+◌, ◌-◌, ◌*◌, ◌/◌
 use Rattle.sc_syntax.specs.declared.WordOp.{WordOp}
 use Rattle.sc_syntax.specs.declared.WordOp.TheVariants as op
 use Rattle.sc_syntax.specs.declared.ShiftLink.{ShiftLink}
-use Rattle.sc_word.specs.declared.tree.TypedExpr.{TypedExpr}
-use Rattle.sc_word.specs.declared.tree.TypedNode.{TypedNode, Literal, Word, Not', Chain', Shift', Pick', Ext', Low', Row_of-TypedLink, end_of-TypedLink, more_of-TypedLink}
+use Rattle.sc_word.specs.Pure.{PureTyped, PureTypedLinks, PureTypedExpr}
 use Rattle.sc_word.specs.Forms.{amount, op_width}
 use Rattle.sc_word.specs.Typed.{TypedWords}
-use Rattle.sc_word.specs.Fits.{IsWellTyped}
+use Rattle.sc_word.specs.Fits.{IsTypedFn}
 
 abbrev pub truth : Bool → ℕ
 truth true = 1
@@ -38,26 +37,26 @@ picked (suc test) a b = a
 
 -- a node of width w, where the words have these values
 abbrev mutual
-  pub value_node : List ℕ → ℕ → TypedNode → ℕ
-  value_node values w (Literal v) = v
-  value_node values w (Word i) = slice_index values i
-  value_node values w (Not' b x n) = 2 ^ w - 1 - value_node values x n
-  value_node values w (Chain' b x n shape row) = value_row values x (value_node values x n) row
-  value_node values w (Shift' b x n links) = shifts_value w links (value_node values x n)
-  value_node values w (Pick' b x n c y m d z o) = picked (value_node values x n) (value_node values y m) (value_node values z o)
-  value_node values w (Ext' b x n) = value_node values x n
-  value_node values w (Low' b x n) = value_node values x n % 2 ^ w
+  pub value_node : List ℕ → ℕ → PureTyped → ℕ
+  value_node values w (PureTyped.literal v) = v
+  value_node values w (PureTyped.word i) = slice_index values i
+  value_node values w (PureTyped.not x n) = 2 ^ w - 1 - value_node values x n
+  value_node values w (PureTyped.chain x n links) = value_row values x (value_node values x n) links
+  value_node values w (PureTyped.shift x n links) = shifts_value w links (value_node values x n)
+  value_node values w (PureTyped.pick x n y m z o) = picked (value_node values x n) (value_node values y m) (value_node values z o)
+  value_node values w (PureTyped.ext x n) = value_node values x n
+  value_node values w (PureTyped.low x n) = value_node values x n % 2 ^ w
 
   -- a chain is grouped from the left
-  pub value_row : {k : _} → List ℕ → ℕ → ℕ → Row_of-TypedLink k → ℕ
-  value_row values w a end_of-TypedLink = a
-  value_row values w a (more_of-TypedLink o x n rest) = value_row values (op_width o w) (op_value o w a (value_node values x n)) rest
+  pub value_row : List ℕ → ℕ → ℕ → PureTypedLinks → ℕ
+  value_row values w a PureTypedLinks.no_links = a
+  value_row values w a (PureTypedLinks.link o x n rest) = value_row values (op_width o w) (op_value o w a (value_node values x n)) rest
 
-abbrev pub value : List ℕ → TypedExpr → ℕ
+abbrev pub value : List ℕ → PureTypedExpr → ℕ
 value values e = value_node values e.width e.node
 
 -- the bindings in order, and then the returned expression
-abbrev pub value_all : List ℕ → List TypedExpr → TypedExpr → ℕ
+abbrev pub value_all : List ℕ → List PureTypedExpr → PureTypedExpr → ℕ
 value_all values [] e = value values e
 value_all values (b ∷ bs) e = value_all (values ++ value values b ∷ []) bs e
 
@@ -73,4 +72,4 @@ AreValues _ _ = ⊥
 
 -- the value of a well typed function is a number of its width
 pub record ValuesFit : Type 0 where
-  pub fits : (t : TypedWords) (inputs : List ℕ) → IsWellTyped t → AreValues inputs t.params → fn_value t inputs < 2 ^ t.returned.width
+  pub fits : (t : TypedWords) (inputs : List ℕ) → IsTypedFn t → AreValues inputs t.params → fn_value t inputs < 2 ^ t.returned.width

@@ -3,14 +3,15 @@ ghost use Rattle.std.specs.Prelude.{◌≡◌, ◌≢◌, ◌≤◌, ◌<◌, �
 ghost use Rattle.std.specs.Option.{option_copied};
 ghost use Rattle.std.specs.Result.{result_err};
 ghost use Rattle.sc_syntax.specs.FormedWords.{IsFormedWordFn};
+ghost use Rattle.sc_syntax.specs.Alike.{pure_word_expr, pure_bind};
+ghost use Rattle.sc_word.specs.Pure.{pure_typed_expr};
 ghost use Rattle.sc_word.specs.Words.{widths_of, IsWidth, AreWidths};
 ghost use Rattle.sc_word.specs.Forms.{amount as stated, form};
 ghost use Rattle.sc_word.specs.Checks.{first_fault, in_bounds, no_literal, result_fits, param_word, checks_params, fault};
-ghost use Rattle.sc_word.specs.Typed.{TypesFn, TypesBinds};
-ghost use Rattle.sc_word.specs.Fits.{IsWellTyped};
-ghost use Rattle.sc_word.specs.Scratch.{fn_scratch, scratch};
+ghost use Rattle.sc_word.specs.Typed.{TypesFn, TypesBinds, AreDeclared};
+ghost use Rattle.sc_word.specs.Fits.{IsTypedFn};
 ghost use Rattle.sc_word.specs.Functions.{typed_words};
-ghost use Rattle.sc_word.specs.Operands.{IsScope, Bound, Returned, or_else, fault_expr, fault_binds};
+ghost use Rattle.sc_word.specs.Operands.{IsScope, Bound, Returned, used, or_else, fault_expr, fault_binds};
 
 use crate::operand::{Operand, form_of, with_width};
 use crate::rules::{amount, in_bounds, no_literal, own_width, result_fits};
@@ -63,6 +64,7 @@ fn declare_params(alloc: Global, params: &[WordParam]) -> Result<Declared, WordF
     ensures words { IfOk result (λ d. d.words ≡ map param_word params.now) }
     ensures widths { IfOk result (λ d. d.widths.items ≡ map (λ p. stated p.width) params.now) }
     ensures bounds { IfOk result (λ d. AreWidths (widths_of d.words)) }
+    ensures declared { OnOk result (AreDeclared [] params.now) }
     ensures none { OnOk result (first_fault (checks_params [] params.now) ≡ None) }
     ensures err { IfErr result (λ f. f ≢ WordFault.Memory → first_fault (checks_params [] params.now) ≡ Some f) }
 {
@@ -80,8 +82,8 @@ fn declare_params(alloc: Global, params: &[WordParam]) -> Result<Declared, WordF
 /// The expression of a binding, which is no bare literal.
 fn bound(alloc: Global, words: &Words, value: &WordExpr) -> Result<TypedExpr, WordFault>
     requires { IsScope words.now }
-    ensures ok { IfOk result (Bound words.now value.now) }
-    ensures err { IfErr result (λ f. f ≢ WordFault.Memory → or_else (fault_expr words.now value.now) (first_fault (no_literal value.now.place (form words.now value.now) ∷ [])) ≡ Some f) }
+    ensures ok { IfOk result (Bound words.now (pure_word_expr value.now)) }
+    ensures err { IfErr result (λ f. f ≢ WordFault.Memory → or_else (fault_expr words.now (pure_word_expr value.now)) (first_fault (no_literal value.now.place (form words.now (pure_word_expr value.now)) ∷ [])) ≡ Some f) }
 {
     let operand = walk(alloc, words, value)?;
     let form = form_of(&operand);
@@ -98,8 +100,8 @@ fn returned(
 ) -> Result<TypedExpr, WordFault>
     requires scope { IsScope words.now }
     requires width { IsWidth width }
-    ensures ok { IfOk result (Returned words.now result_word.now width) }
-    ensures err { IfErr result (λ f. f ≢ WordFault.Memory → or_else (fault_expr words.now result_word.now) (first_fault (result_fits result_word.now.place (form words.now result_word.now) width ∷ [])) ≡ Some f) }
+    ensures ok { IfOk result (Returned words.now (pure_word_expr result_word.now) width) }
+    ensures err { IfErr result (λ f. f ≢ WordFault.Memory → or_else (fault_expr words.now (pure_word_expr result_word.now)) (first_fault (result_fits result_word.now.place (form words.now (pure_word_expr result_word.now)) width ∷ [])) ≡ Some f) }
 {
     let operand = walk(alloc, words, result_word)?;
     result_fits(result_word.place, form_of(&operand), width)?;
@@ -123,7 +125,7 @@ fn type_body(
     requires few { length words + length binds.now ≤ 8388608 }
     requires bounds { AreWidths (widths_of words) }
     requires width { IsWidth width }
-    ensures trees { IfOk result (λ b. TypesBinds words binds.now result_word.now b.binds.items b.returned) }
+    ensures trees { IfOk result (λ b. TypesBinds words (map pure_bind binds.now) (pure_word_expr result_word.now) (map pure_typed_expr b.binds.items) (pure_typed_expr b.returned)) }
     ensures width { IfOk result (λ b. b.returned.width ≡ width) }
     ensures none { OnOk result (fault_binds words binds.now result_word.now width ≡ None) }
     ensures err { IfErr result (λ f. f ≢ WordFault.Memory → fault_binds words binds.now result_word.now width ≡ Some f) }
@@ -144,8 +146,8 @@ fn type_body(
 }
 
 fn total_scratch(binds: &[TypedExpr], returned: &TypedExpr) -> u64
-    requires { sum_by scratch binds.now + scratch returned.now < 2 ^ 64 }
-    ensures { result ≡ sum_by scratch binds.now + scratch returned.now }
+    requires { sum_by used binds.now + used returned.now < 2 ^ 64 }
+    ensures { result ≡ sum_by used binds.now + used returned.now }
 {
     let mut count = scratch_of(returned);
     for bind in binds {

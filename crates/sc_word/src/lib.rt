@@ -14,6 +14,6 @@ mod walk;
 mod words;
 
 pub use function::typed;
-pub use laws::values_fit;
+pub use laws::{one_typing, values_fit, widths_fit};
 pub use tree::{TypedExpr, TypedLink, TypedNode, WordFault};
 pub use typed_fn::TypedFn;

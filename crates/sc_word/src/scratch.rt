@@ -1,6 +1,7 @@
 //! How many scratch qubits a typed word uses.
 ghost use Rattle.std.specs.Prelude.{◌≡◌, ◌^◌, ◌<◌, ◌+◌, ◌-◌, sum_by};
-ghost use Rattle.sc_word.specs.Scratch.{scratch, shift_scratch, op_scratch, adder_scratch};
+ghost use Rattle.sc_word.specs.Scratch.{shift_scratch, op_scratch, adder_scratch};
+ghost use Rattle.sc_word.specs.Operands.{used};
 
 use crate::chain::op_width;
 use crate::rules::amount;
@@ -51,8 +52,8 @@ fn of_shifts(links: &[ShiftLink], width: u32) -> u64
 }
 
 pub(crate) fn scratch_of(expr: &TypedExpr) -> u64
-    requires { scratch expr.now < 2 ^ 64 }
-    ensures { result ≡ scratch expr.now }
+    requires { used expr.now < 2 ^ 64 }
+    ensures { result ≡ used expr.now }
 {
     let wires = u64::from(expr.width);
     match &expr.node {

@@ -1,8 +1,9 @@
 //! The walk of a word expression.
 ghost use Rattle.std.specs.Prelude.{◌≡◌, ◌≢◌, [], ◌∷◌, Some, None, OnOk, IfOk, IfErr};
+ghost use Rattle.sc_syntax.specs.Alike.{pure_word};
 ghost use Rattle.sc_word.specs.Words.{number_of};
 ghost use Rattle.sc_word.specs.Checks.{first_fault, is_known};
-ghost use Rattle.sc_word.specs.Operands.{Walked, IsScope, IsKnown, fault_node};
+ghost use Rattle.sc_word.specs.Operands.{WalkedWord, IsScope, IsKnown, fault_node};
 
 use crate::chain::{Chain, finished, joined};
 use crate::form::{extended, lowered, negated, picked, shifted};
@@ -30,8 +31,8 @@ fn known(words: &Words, name: &Text, at: Place) -> Result<Operand, WordFault>
 /// The typed word of an expression, or the literal where it is a bare one; or its first fault.
 pub(crate) fn walk(alloc: Global, words: &Words, expr: &WordExpr) -> Result<Operand, WordFault>
     requires { IsScope words.now }
-    ensures ok { IfOk result (Walked words.now expr.now.place expr.now.node) }
-    ensures err { IfErr result (λ f. f ≢ WordFault.Memory → fault_node words.now expr.now.place expr.now.node ≡ Some f) }
+    ensures ok { IfOk result (WalkedWord words.now expr.now.place (pure_word expr.now.node)) }
+    ensures err { IfErr result (λ f. f ≢ WordFault.Memory → fault_node words.now expr.now.place (pure_word expr.now.node) ≡ Some f) }
 {
     match &expr.node {
         WordNode::Int(value) => Ok(Operand::Bare(value.unsigned_abs())),

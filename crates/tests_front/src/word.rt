@@ -1,14 +1,14 @@
 //! Classical functions: the widths of their words, their scratch qubits, and their typed trees.
 use sc_parse::parse;
-use sc_syntax::{WordOp, lex};
+use sc_syntax::{ShiftLink, WordOp, lex};
 use sc_types::{Checked, TypeFault, check};
-use sc_word::{TypedExpr, TypedFn, TypedNode};
+use sc_word::{TypedExpr, TypedFn, TypedLink, TypedNode};
 use std::alloc::{AllocError, Global};
 use std::process::Abort;
 use std::test::Fail;
 
 /// A classical function, the width of its last parameter, its scratch qubits, and the trees of its
-/// bindings and of what it returns. A tree has `:WIDTH` behind each node, and `#NUMBER` for a word.
+/// bindings and of what it returns. Behind each part stands its width; `#0` is the first word.
 const FUNCTIONS: [(&str, u32, u64, &str); 15] = [
     ("classical f(a) : 1 { return a; }", 1, 0, "#0:1"),
     ("classical f(a[4]) : 4 { return 9; }", 4, 4, "9:4"),
@@ -23,7 +23,7 @@ const FUNCTIONS: [(&str, u32, u64, &str); 15] = [
         "classical f(a[4], b[4]) : 4 { return a - b * b; }",
         4,
         52,
-        "(#0:4 - (#1:4 * #1:4):4):4",
+        "(#0:4 - (..):4):4",
     ),
     (
         "classical f(a[3], b[3]) : 1 { return a == b == 1; }",
@@ -41,7 +41,7 @@ const FUNCTIONS: [(&str, u32, u64, &str); 15] = [
         "classical f(a[3], b[3]) : 3 { return a & b | a ^ 7; }",
         3,
         12,
-        "((#0:3 & #1:3):3 | (#0:3 ^ 7:3):3):3",
+        "((..):3 | (..):3):3",
     ),
     (
         "classical f(a[5]) : 5 { return a << 2 >> 64; }",
@@ -105,7 +105,8 @@ fn name_of(op: WordOp) -> &'static str {
     }
 }
 
-fn tree(alloc: Global, expr: &TypedExpr) -> Result<String, AllocError> {
+/// An operand: a word, a literal, or another expression, each with its width.
+fn operand(alloc: Global, expr: &TypedExpr) -> Result<String, AllocError> {
     let width = expr.width;
     match &expr.node {
         TypedNode::Literal(value) => {
@@ -116,53 +117,70 @@ fn tree(alloc: Global, expr: &TypedExpr) -> Result<String, AllocError> {
             let number = *number;
             format!(in alloc; "#{number}:{width}")
         }
+        _ => format!(in alloc; "(..):{width}"),
+    }
+}
+
+fn chain(alloc: Global, first: &TypedExpr, links: &[TypedLink]) -> Result<String, AllocError> {
+    let mut text = operand(alloc, first)?;
+    for link in links {
+        let op = name_of(link.op);
+        let right = operand(alloc, &link.right)?;
+        text = format!(in alloc; "{text} {op} {right}")?;
+    }
+    Ok(text)
+}
+
+fn shift(alloc: Global, first: &TypedExpr, links: &[ShiftLink]) -> Result<String, AllocError> {
+    let mut text = operand(alloc, first)?;
+    for link in links {
+        let by = link.by.value;
+        let op = if link.left { "<<" } else { ">>" };
+        text = format!(in alloc; "{text} {op} {by}")?;
+    }
+    Ok(text)
+}
+
+/// An expression, its operands, and the width of each.
+fn tree(alloc: Global, expr: &TypedExpr) -> Result<String, AllocError> {
+    let width = expr.width;
+    match &expr.node {
         TypedNode::Not(inner) => {
-            let inner = tree(alloc, inner)?;
+            let inner = operand(alloc, inner)?;
             format!(in alloc; "~{inner}:{width}")
         }
         TypedNode::Chain(first, links) => {
-            let mut text = tree(alloc, first)?;
-            for link in links {
-                let op = name_of(link.op);
-                let right = tree(alloc, &link.right)?;
-                text = format!(in alloc; "{text} {op} {right}")?;
-            }
+            let text = chain(alloc, first, links.as_slice())?;
             format!(in alloc; "({text}):{width}")
         }
-        TypedNode::Shift(inner, links) => {
-            let mut text = tree(alloc, inner)?;
-            for link in links.as_slice() {
-                let by = link.by.value;
-                let op = if link.left { "<<" } else { ">>" };
-                text = format!(in alloc; "{text} {op} {by}")?;
-            }
+        TypedNode::Shift(first, links) => {
+            let text = shift(alloc, first, links.as_slice())?;
             format!(in alloc; "({text}):{width}")
         }
         TypedNode::Pick(test, yes, no) => {
-            let test = tree(alloc, test)?;
-            let yes = tree(alloc, yes)?;
-            let no = tree(alloc, no)?;
+            let test = operand(alloc, test)?;
+            let yes = operand(alloc, yes)?;
+            let no = operand(alloc, no)?;
             format!(in alloc; "({test} ? {yes} : {no}):{width}")
         }
         TypedNode::Ext(inner) => {
-            let inner = tree(alloc, inner)?;
+            let inner = operand(alloc, inner)?;
             format!(in alloc; "ext {inner}:{width}")
         }
         TypedNode::Low(inner) => {
-            let inner = tree(alloc, inner)?;
+            let inner = operand(alloc, inner)?;
             format!(in alloc; "low {inner}:{width}")
         }
+        _ => operand(alloc, expr),
     }
 }
 
 /// The trees of the bindings in order, and of what is returned.
 fn trees(alloc: Global, function: &TypedFn) -> Result<String, AllocError> {
     let mut text = String::new(alloc);
-    for i in 0..function.binds() {
-        if let Some(bind) = function.bind(i) {
-            let bind = tree(alloc, bind)?;
-            text = format!(in alloc; "{text}{bind}; ")?;
-        }
+    for bind in function.bindings() {
+        let bind = tree(alloc, bind)?;
+        text = format!(in alloc; "{text}{bind}; ")?;
     }
     let returned = tree(alloc, function.returned())?;
     format!(in alloc; "{text}{returned}")
@@ -193,6 +211,9 @@ fn functions_have_their_widths_scratch_qubits_and_trees(rt: HostRuntime) -> Resu
                     assert_eq!(rt; width, Some(last), "{function}");
                     assert_eq!(rt; word.width_of(), word.returned().width, "{function}");
                     assert_eq!(rt; word.scratch(), scratch, "{function}");
+                    assert_eq!(rt; word.binds() as usize, word.bindings().len(), "{function}");
+                    assert_eq!(rt; word.params() as usize, word.widths().len(), "{function}");
+                    assert!(rt; word.wires() > scratch, "{function}");
                     assert_eq!(rt; trees(alloc, word)?.as_str(), want, "{function}");
                 }
             }
