@@ -1,20 +1,29 @@
 -- How tightly the operators of words bind, and what is read of them.
 use Rattle.std.specs.Prelude.{◌≡◌, ◌≢◌, ℕ, ◌+◌, ◌≤◌, ◌<◌, drop, false, List, [], ◌∷◌, Option, Some, None}
 use Rattle.sc_syntax.specs.declared.Mark.{Mark}
+use Rattle.sc_syntax.specs.declared.Mark.TheVariants as m
 use Rattle.sc_syntax.specs.declared.WordOp.{WordOp}
 use Rattle.sc_syntax.specs.declared.WordLink.{WordLink}
 use Rattle.sc_parse.specs.declared.word.WordLevel.{WordLevel}
 use Rattle.sc_parse.specs.declared.word.WordLevel.TheVariants as level
 use Rattle.sc_parse.specs.declared.terminal.Terminal.{Terminal}
-use Rattle.sc_parse.specs.declared.terminal.Terminal.TheVariants.{Mark as marked}
+use Rattle.sc_parse.specs.declared.terminal.Terminal.TheVariants.{Mark as marked, Ext, Low}
 use Rattle.sc_parse.specs.Pieces.{Piece, next}
-use Rattle.sc_parse.specs.Form.{Form, sub, many, ◌⨾◌}
+use Rattle.sc_parse.specs.Form.{Form, sub, one, many, mark, optional, ◌⨾◌, ◌∣◌}
 use Rattle.sc_parse.specs.Form as symbol
 use Rattle.sc_parse.specs.Rules.{word_chain_of, word_operand, word_operator}
 use Rattle.sc_parse.specs.Runs.{begins}
 use Rattle.sc_parse.specs.Trees.{Tree, word_binary_of, word_level_of}
 use Rattle.sc_parse.specs.Derives.{WordLinked}
 use Rattle.sc_parse.specs.Reads.{Reads}
+
+-- what stands behind the test of `?`
+abbrev pub picked : Form
+picked = mark m.Question ⨾ sub symbol.WExpr ⨾ mark m.Colon ⨾ sub symbol.WExpr
+
+-- a name that is `ext` or `low`, or a word that one of them brings to another width
+abbrev pub sized : Form
+sized = (one Ext ∣ one Low) ⨾ optional (mark m.OpenParen ⨾ sub symbol.WExpr ⨾ mark m.Comma ⨾ sub symbol.Width ⨾ mark m.CloseParen)
 
 -- how loosely a level's operators bind; 2 is left for shifts
 abbrev pub word_looseness : WordLevel → ℕ

@@ -22,12 +22,12 @@ pub enum WordLevel {
 
 impl Reader<'_> {
     ghost use Rattle.sc_parse.specs.declared.word.WordLevel.{WordLevel as Level};
-    ghost use Rattle.sc_parse.specs.WordLevels.{IsWordQuiet, ReadsWordChain, ReadsWordLinks, ReadsWordOperand, tightest, word_base as base, word_level_ahead, word_looseness};
+    ghost use Rattle.sc_parse.specs.WordLevels.{IsWordQuiet, ReadsWordChain, ReadsWordLinks, ReadsWordOperand, picked, sized, tightest, word_base as base, word_level_ahead, word_looseness};
     ghost use Rattle.sc_parse.specs.Form as symbol;
     ghost use Rattle.sc_parse.specs.Form.{◌⨾◌, ◌∣◌, many, one, sub};
     ghost use Rattle.sc_parse.specs.Input.{input};
     ghost use Rattle.sc_parse.specs.Pieces.{IsInside, next, piece};
-    ghost use Rattle.sc_parse.specs.Reads.{Fails, Reads, Takes, TakesShift, TakesWordBinary};
+    ghost use Rattle.sc_parse.specs.Reads.{Fails, Makes, MakesAfter, Reads, Takes, TakesShift, TakesWordBinary};
     ghost use Rattle.sc_parse.specs.Rules.{shift_marks, word_chain_of, word_operand, word_operator};
     ghost use Rattle.sc_parse.specs.Form.{choice};
     ghost use Rattle.sc_parse.specs.Runs.{begins};
@@ -102,10 +102,24 @@ impl Reader<'_> {
         if !self.is_mark(*at, Mark::Question) {
             return Ok(test);
         }
-        self.mark(at, depth + 1, Mark::Question)?;
-        let yes = self.word_expr(at, depth + 1)?;
-        self.mark(at, depth + 1, Mark::Colon)?;
-        let no = self.word_expr(at, depth + 1)?;
+        let made = self.word_picked(at, depth + 1, test)?;
+        Ok(made)
+    }
+
+    /// `? yes : no` behind a test. It stands apart, so that its room is not taken where parentheses nest.
+    #[cycle(word)]
+    #[inline(never)]
+    fn word_picked(&self, at: &mut usize, depth: u32, test: WordExpr) -> Result<WordExpr, Fault>
+        requires within { at.old ≤ length (input self.now) }
+        requires shallow { depth ≤ 129 }
+        ensures { MatchResult result
+            (λ e. MakesAfter picked symbol.WExpr depth (input self.now) at.old at.new (tree test) (tree e))
+            (Fails picked depth (input self.now) at.old) }
+    {
+        self.mark(at, depth, Mark::Question)?;
+        let yes = self.word_expr(at, depth)?;
+        self.mark(at, depth, Mark::Colon)?;
+        let no = self.word_expr(at, depth)?;
         let made = make_words::pick(self.alloc, test, yes, no)?;
         Ok(made)
     }
@@ -274,6 +288,21 @@ impl Reader<'_> {
             let made = make_words::paren(self.alloc, place, inner)?;
             return Ok(made);
         }
+        let made = self.word_sized(at, depth)?;
+        Ok(made)
+    }
+
+    /// A word that is brought to another width, or a name that is `ext` or `low`. It stands apart, so that its room is
+    /// not taken where parentheses nest.
+    #[cycle(word)]
+    #[inline(never)]
+    fn word_sized(&self, at: &mut usize, depth: u32) -> Result<WordExpr, Fault>
+        requires within { at.old ≤ length (input self.now) }
+        requires shallow { depth ≤ 129 }
+        ensures { MatchResult result
+            (λ e. Makes sized symbol.WPrim depth (input self.now) at.old at.new (tree e))
+            (Fails sized depth (input self.now) at.old) }
+    {
         let token = self.resize(at, depth)?;
         let text = self.text(token)?;
         if !self.is_mark(*at, Mark::OpenParen) {

@@ -1,8 +1,10 @@
-use Rattle.std.proofs.Common.{refl, sym, ◌∙◌, arith}
+use Rattle.std.proofs.Common.{refl, sym, ◌∙◌, [], ◌∷◌, arith}
 use Rattle.std.proofs.lemmas.Grind.{common_steps}
 use Rattle.std.proofs.lemmas.Result.{err_from_is_err_and}
 use Rattle.sc_parse.specs.Derives.{word_or_is, word_prim_is, word_name_is}
+use Rattle.sc_parse.specs.Trees.{token, word_expr as tree}
 use Rattle.sc_parse.proofs.Forget.{fits_of}
+use Rattle.sc_parse.proofs.Parts.{makes}
 use Rattle.sc_parse.proofs.Sorts.{int_sort, plain_sort}
 use Rattle.sc_parse.proofs.Repeats.{repeats, repeats_not}
 use Rattle.sc_parse.proofs.WordChains.{link_begins, chained_start, chained_more, chained_links, climbed_start, climbed_more, climbed_chain, climbed_fails, base_fails, level_there, quiet_below, shifted_start, shifted_more, shifted_none, resize_sort, resize_kind}
@@ -17,33 +19,45 @@ word_expr-returns-in_err-test t c =
 pub word_expr-returns-then-not-is_mark : goal.word_expr-returns-then-not-is_mark
 word_expr-returns-then-not-is_mark t c = let b = sym c.is_mark.ensures ∙ c.if-not-is_mark.true in reads_sub (reads_nested (reads_both c.in_ok-test.ensures.reads (reads_right b (reads_empty c.in_ok-test.ensures.reads.within)))) word_or_is
 
-pub word_expr-returns-in_err-mark : goal.word_expr-returns-in_err-mark
-word_expr-returns-in_err-mark t c =
-    let p = err_from_is_err_and c.from_residual-in_err-mark.result c.from_residual-in_err-mark.ensures.1 in let b = sym c.is_mark.ensures ∙ c.if-not-is_mark.false in
-    rw (p.1, p.2) (fails_sub (fails_nested (fails_second c.in_ok-test.ensures.reads (fails_left b (fails_first (c.in_err-mark.ensures))))))
-
-pub word_expr-returns-in_err-yes : goal.word_expr-returns-in_err-yes
-word_expr-returns-in_err-yes t c =
-    let p = err_from_is_err_and c.from_residual-in_err-yes.result c.from_residual-in_err-yes.ensures.1 in let b = sym c.is_mark.ensures ∙ c.if-not-is_mark.false in
-    rw (p.1, p.2) (fails_sub (fails_nested (fails_second c.in_ok-test.ensures.reads (fails_left b (fails_second c.in_ok-mark.ensures.takes.reads (fails_first (c.in_err-yes.ensures)))))))
-
-pub word_expr-returns-in_err-mark-2 : goal.word_expr-returns-in_err-mark-2
-word_expr-returns-in_err-mark-2 t c =
-    let p = err_from_is_err_and c.from_residual-in_err-mark-2.result c.from_residual-in_err-mark-2.ensures.1 in let b = sym c.is_mark.ensures ∙ c.if-not-is_mark.false in
-    rw (p.1, p.2) (fails_sub (fails_nested (fails_second c.in_ok-test.ensures.reads (fails_left b (fails_second c.in_ok-mark.ensures.takes.reads (fails_second c.in_ok-yes.ensures (fails_first (c.in_err-mark-2.ensures))))))))
-
-pub word_expr-returns-in_err-no : goal.word_expr-returns-in_err-no
-word_expr-returns-in_err-no t c =
-    let p = err_from_is_err_and c.from_residual-in_err-no.result c.from_residual-in_err-no.ensures.1 in let b = sym c.is_mark.ensures ∙ c.if-not-is_mark.false in
-    rw (p.1, p.2) (fails_sub (fails_nested (fails_second c.in_ok-test.ensures.reads (fails_left b (fails_second c.in_ok-mark.ensures.takes.reads (fails_second c.in_ok-yes.ensures (fails_second c.in_ok-mark-2.ensures.takes.reads (c.in_err-no.ensures))))))))
-
 pub word_expr-returns-in_err-made : goal.word_expr-returns-in_err-made
 word_expr-returns-in_err-made t c =
+    let p = err_from_is_err_and c.from_residual-in_err-made.result c.from_residual-in_err-made.ensures.1 in let b = sym c.is_mark.ensures ∙ c.if-not-is_mark.false in
+    rw (p.1, p.2) (fails_sub (fails_nested (fails_second c.in_ok-test.ensures.reads (fails_left b c.in_err-made.ensures))))
+
+pub word_expr-returns : goal.word_expr-returns
+word_expr-returns t c = let b = sym c.is_mark.ensures ∙ c.if-not-is_mark.false in reads_sub (reads_nested (reads_both c.in_ok-test.ensures.reads (reads_left b c.in_ok-made.ensures.reads))) c.in_ok-made.ensures.builds
+
+pub word_picked-returns-in_err-mark : goal.word_picked-returns-in_err-mark
+word_picked-returns-in_err-mark t c =
+    let p = err_from_is_err_and c.from_residual.result c.from_residual.ensures.1 in
+    rw (p.1, p.2) (fails_first c.in_err-mark.ensures)
+
+pub word_picked-returns-in_err-yes : goal.word_picked-returns-in_err-yes
+word_picked-returns-in_err-yes t c =
+    let p = err_from_is_err_and c.from_residual-in_err-yes.result c.from_residual-in_err-yes.ensures.1 in
+    rw (p.1, p.2) (fails_second c.in_ok-mark.ensures.takes.reads (fails_first c.in_err-yes.ensures))
+
+pub word_picked-returns-in_err-mark-2 : goal.word_picked-returns-in_err-mark-2
+word_picked-returns-in_err-mark-2 t c =
+    let p = err_from_is_err_and c.from_residual-in_err-mark-2.result c.from_residual-in_err-mark-2.ensures.1 in
+    rw (p.1, p.2) (fails_second c.in_ok-mark.ensures.takes.reads (fails_second c.in_ok-yes.ensures (fails_first c.in_err-mark-2.ensures)))
+
+pub word_picked-returns-in_err-no : goal.word_picked-returns-in_err-no
+word_picked-returns-in_err-no t c =
+    let p = err_from_is_err_and c.from_residual-in_err-no.result c.from_residual-in_err-no.ensures.1 in
+    rw (p.1, p.2) (fails_second c.in_ok-mark.ensures.takes.reads (fails_second c.in_ok-yes.ensures (fails_second c.in_ok-mark-2.ensures.takes.reads c.in_err-no.ensures)))
+
+pub word_picked-returns-in_err-made : goal.word_picked-returns-in_err-made
+word_picked-returns-in_err-made t c =
     let p = err_from_is_err_and c.from_residual-in_err-made.result c.from_residual-in_err-made.ensures.1 in
     rw (p.1, p.2, c.in_err-made.ensures.err) (record { why = tt })
 
-pub word_expr-returns : goal.word_expr-returns
-word_expr-returns t c = let b = sym c.is_mark.ensures ∙ c.if-not-is_mark.false in reads_sub (reads_nested (reads_both c.in_ok-test.ensures.reads (reads_left b (reads_both c.in_ok-mark.ensures.takes.reads (reads_both c.in_ok-yes.ensures (reads_both c.in_ok-mark-2.ensures.takes.reads (c.in_ok-no.ensures))))))) (c.in_ok-made.ensures.ok _ _)
+pub word_picked-returns : goal.word_picked-returns
+word_picked-returns t c = record {
+  parts = token c.in_ok-mark.ensures.it ∷ tree c.in_ok-yes.yes ∷ token c.in_ok-mark-2.ensures.it ∷ tree c.in_ok-no.no ∷ [];
+  reads = reads_both c.in_ok-mark.ensures.takes.reads (reads_both c.in_ok-yes.ensures (reads_both c.in_ok-mark-2.ensures.takes.reads c.in_ok-no.ensures));
+  builds = c.in_ok-made.ensures.ok _ _;
+}
 
 pub word_links-returns-in_err-links : goal.word_links-returns-in_err-links
 word_links-returns-in_err-links t c =
@@ -214,48 +228,58 @@ word_prim-returns-in_err-made t c =
 pub word_prim-returns-then-is_mark : goal.word_prim-returns-then-is_mark
 word_prim-returns-then-is_mark t c = let a = sym c.is_at.ensures ∙ c.if-is_at.false in let b = sym c.is_at-2.ensures ∙ c.if-is_at-2.false in let d = sym c.is_mark.ensures ∙ c.if-is_mark.true in reads_sub (reads_right a (reads_right b (reads_left d (reads_both c.in_ok-place.ensures.takes.reads (reads_both c.in_ok-inner.ensures (c.in_ok-mark.ensures.takes.reads)))))) (c.in_ok-made.ensures.ok _ c.in_ok-mark.ensures.it c.in_ok-place.ensures.stands)
 
-pub word_prim-returns-in_err-token-3 : goal.word_prim-returns-in_err-token-3
-word_prim-returns-in_err-token-3 t c =
-    let p = err_from_is_err_and c.from_residual-in_err-token-3.result c.from_residual-in_err-token-3.ensures.1 in let a = sym c.is_at.ensures ∙ c.if-is_at.false in let b = sym c.is_at-2.ensures ∙ c.if-is_at-2.false in let d = sym c.is_mark.ensures ∙ c.if-is_mark.false in
-    rw (p.1, p.2) (fails_sub (fails_right a (fails_right b (fails_right d (fails_first (c.in_err-token-3.ensures))))))
-
-pub word_prim-returns-in_err-text-2 : goal.word_prim-returns-in_err-text-2
-word_prim-returns-in_err-text-2 t c =
-    let p = err_from_is_err_and c.from_residual-in_err-text-2.result c.from_residual-in_err-text-2.ensures.1 in
-    rw (p.1, p.2, c.in_err-text-2.ensures) (record { why = tt })
-
-pub word_prim-returns-then-not-is_mark : goal.word_prim-returns-then-not-is_mark
-word_prim-returns-then-not-is_mark t c = let a = sym c.is_at.ensures ∙ c.if-is_at.false in let b = sym c.is_at-2.ensures ∙ c.if-is_at-2.false in let d = sym c.is_mark.ensures ∙ c.if-is_mark.false in let x = sym c.is_mark-2.ensures ∙ c.if-not-is_mark.true in reads_sub (reads_right a (reads_right b (reads_right d (reads_both c.in_ok-token-3.ensures.0.reads (reads_right x (reads_empty c.in_ok-token-3.ensures.0.reads.within)))))) (rw c.in_ok-text-2.ensures (word_name_is (resize_sort c.in_ok-token-3.ensures.0.reads.derives)))
-
-pub word_prim-returns-in_err-mark-2 : goal.word_prim-returns-in_err-mark-2
-word_prim-returns-in_err-mark-2 t c =
-    let p = err_from_is_err_and c.from_residual-in_err-mark-2.result c.from_residual-in_err-mark-2.ensures.1 in let a = sym c.is_at.ensures ∙ c.if-is_at.false in let b = sym c.is_at-2.ensures ∙ c.if-is_at-2.false in let d = sym c.is_mark.ensures ∙ c.if-is_mark.false in let x = sym c.is_mark-2.ensures ∙ c.if-not-is_mark.false in
-    rw (p.1, p.2) (fails_sub (fails_right a (fails_right b (fails_right d (fails_second c.in_ok-token-3.ensures.0.reads (fails_left x (fails_first (c.in_err-mark-2.ensures))))))))
-
-pub word_prim-returns-in_err-inner-2 : goal.word_prim-returns-in_err-inner-2
-word_prim-returns-in_err-inner-2 t c =
-    let p = err_from_is_err_and c.from_residual-in_err-inner-2.result c.from_residual-in_err-inner-2.ensures.1 in let a = sym c.is_at.ensures ∙ c.if-is_at.false in let b = sym c.is_at-2.ensures ∙ c.if-is_at-2.false in let d = sym c.is_mark.ensures ∙ c.if-is_mark.false in let x = sym c.is_mark-2.ensures ∙ c.if-not-is_mark.false in
-    rw (p.1, p.2) (fails_sub (fails_right a (fails_right b (fails_right d (fails_second c.in_ok-token-3.ensures.0.reads (fails_left x (fails_second c.in_ok-mark-2.ensures.takes.reads (fails_first (c.in_err-inner-2.ensures)))))))))
-
-pub word_prim-returns-in_err-mark-3 : goal.word_prim-returns-in_err-mark-3
-word_prim-returns-in_err-mark-3 t c =
-    let p = err_from_is_err_and c.from_residual-in_err-mark-3.result c.from_residual-in_err-mark-3.ensures.1 in let a = sym c.is_at.ensures ∙ c.if-is_at.false in let b = sym c.is_at-2.ensures ∙ c.if-is_at-2.false in let d = sym c.is_mark.ensures ∙ c.if-is_mark.false in let x = sym c.is_mark-2.ensures ∙ c.if-not-is_mark.false in
-    rw (p.1, p.2) (fails_sub (fails_right a (fails_right b (fails_right d (fails_second c.in_ok-token-3.ensures.0.reads (fails_left x (fails_second c.in_ok-mark-2.ensures.takes.reads (fails_second c.in_ok-inner-2.ensures (fails_first (c.in_err-mark-3.ensures))))))))))
-
-pub word_prim-returns-in_err-width : goal.word_prim-returns-in_err-width
-word_prim-returns-in_err-width t c =
-    let p = err_from_is_err_and c.from_residual-in_err-width.result c.from_residual-in_err-width.ensures.1 in let a = sym c.is_at.ensures ∙ c.if-is_at.false in let b = sym c.is_at-2.ensures ∙ c.if-is_at-2.false in let d = sym c.is_mark.ensures ∙ c.if-is_mark.false in let x = sym c.is_mark-2.ensures ∙ c.if-not-is_mark.false in
-    rw (p.1, p.2) (fails_sub (fails_right a (fails_right b (fails_right d (fails_second c.in_ok-token-3.ensures.0.reads (fails_left x (fails_second c.in_ok-mark-2.ensures.takes.reads (fails_second c.in_ok-inner-2.ensures (fails_second c.in_ok-mark-3.ensures.takes.reads (fails_first (c.in_err-width.ensures)))))))))))
-
-pub word_prim-returns-in_err-mark-4 : goal.word_prim-returns-in_err-mark-4
-word_prim-returns-in_err-mark-4 t c =
-    let p = err_from_is_err_and c.from_residual-in_err-mark-4.result c.from_residual-in_err-mark-4.ensures.1 in let a = sym c.is_at.ensures ∙ c.if-is_at.false in let b = sym c.is_at-2.ensures ∙ c.if-is_at-2.false in let d = sym c.is_mark.ensures ∙ c.if-is_mark.false in let x = sym c.is_mark-2.ensures ∙ c.if-not-is_mark.false in
-    rw (p.1, p.2) (fails_sub (fails_right a (fails_right b (fails_right d (fails_second c.in_ok-token-3.ensures.0.reads (fails_left x (fails_second c.in_ok-mark-2.ensures.takes.reads (fails_second c.in_ok-inner-2.ensures (fails_second c.in_ok-mark-3.ensures.takes.reads (fails_second c.in_ok-width.ensures.reads (c.in_err-mark-4.ensures)))))))))))
-
 pub word_prim-returns-in_err-made-2 : goal.word_prim-returns-in_err-made-2
 word_prim-returns-in_err-made-2 t c =
-    let p = err_from_is_err_and c.from_residual-in_err-made-2.result c.from_residual-in_err-made-2.ensures.1 in
-    rw (p.1, p.2, c.in_err-made-2.ensures.err) (record { why = tt })
+    let p = err_from_is_err_and c.from_residual-in_err-made-2.result c.from_residual-in_err-made-2.ensures.1 in let a = sym c.is_at.ensures ∙ c.if-is_at.false in let b = sym c.is_at-2.ensures ∙ c.if-is_at-2.false in let d = sym c.is_mark.ensures ∙ c.if-is_mark.false in
+    rw (p.1, p.2) (fails_sub (fails_right a (fails_right b (fails_right d c.in_err-made-2.ensures))))
 
 pub word_prim-returns : goal.word_prim-returns
-word_prim-returns t c = let a = sym c.is_at.ensures ∙ c.if-is_at.false in let b = sym c.is_at-2.ensures ∙ c.if-is_at-2.false in let d = sym c.is_mark.ensures ∙ c.if-is_mark.false in let x = sym c.is_mark-2.ensures ∙ c.if-not-is_mark.false in reads_sub (reads_right a (reads_right b (reads_right d (reads_both c.in_ok-token-3.ensures.0.reads (reads_left x (reads_both c.in_ok-mark-2.ensures.takes.reads (reads_both c.in_ok-inner-2.ensures (reads_both c.in_ok-mark-3.ensures.takes.reads (reads_both c.in_ok-width.ensures.reads (c.in_ok-mark-4.ensures.takes.reads)))))))))) (c.in_ok-made-2.ensures.ok _ c.in_ok-mark-2.ensures.it c.in_ok-mark-3.ensures.it c.in_ok-mark-4.ensures.it refl (resize_sort c.in_ok-token-3.ensures.0.reads.derives) (sym c.in_ok-text-2.ensures) (resize_kind c.in_ok-token-3.ensures.0.reads.derives))
+word_prim-returns t c = let a = sym c.is_at.ensures ∙ c.if-is_at.false in let b = sym c.is_at-2.ensures ∙ c.if-is_at-2.false in let d = sym c.is_mark.ensures ∙ c.if-is_mark.false in reads_sub (reads_right a (reads_right b (reads_right d c.in_ok-made-2.ensures.reads))) c.in_ok-made-2.ensures.builds
+
+pub word_sized-returns-in_err-token : goal.word_sized-returns-in_err-token
+word_sized-returns-in_err-token t c =
+    let p = err_from_is_err_and c.from_residual.result c.from_residual.ensures.1 in
+    rw (p.1, p.2) (fails_first c.in_err-token.ensures)
+
+pub word_sized-returns-in_err-text : goal.word_sized-returns-in_err-text
+word_sized-returns-in_err-text t c =
+    let p = err_from_is_err_and c.from_residual-in_err-text.result c.from_residual-in_err-text.ensures.1 in
+    rw (p.1, p.2, c.in_err-text.ensures) (record { why = tt })
+
+pub word_sized-returns-then-not-is_mark : goal.word_sized-returns-then-not-is_mark
+word_sized-returns-then-not-is_mark t c = let x = sym c.is_mark.ensures ∙ c.if-not-is_mark.true in makes (reads_both c.in_ok-token.ensures.0.reads (reads_right x (reads_empty c.in_ok-token.ensures.0.reads.within))) (rw c.in_ok-text.ensures (word_name_is (resize_sort c.in_ok-token.ensures.0.reads.derives)))
+
+pub word_sized-returns-in_err-mark : goal.word_sized-returns-in_err-mark
+word_sized-returns-in_err-mark t c =
+    let p = err_from_is_err_and c.from_residual-in_err-mark.result c.from_residual-in_err-mark.ensures.1 in let x = sym c.is_mark.ensures ∙ c.if-not-is_mark.false in
+    rw (p.1, p.2) (fails_second c.in_ok-token.ensures.0.reads (fails_left x (fails_first c.in_err-mark.ensures)))
+
+pub word_sized-returns-in_err-inner : goal.word_sized-returns-in_err-inner
+word_sized-returns-in_err-inner t c =
+    let p = err_from_is_err_and c.from_residual-in_err-inner.result c.from_residual-in_err-inner.ensures.1 in let x = sym c.is_mark.ensures ∙ c.if-not-is_mark.false in
+    rw (p.1, p.2) (fails_second c.in_ok-token.ensures.0.reads (fails_left x (fails_second c.in_ok-mark.ensures.takes.reads (fails_first c.in_err-inner.ensures))))
+
+pub word_sized-returns-in_err-mark-2 : goal.word_sized-returns-in_err-mark-2
+word_sized-returns-in_err-mark-2 t c =
+    let p = err_from_is_err_and c.from_residual-in_err-mark-2.result c.from_residual-in_err-mark-2.ensures.1 in let x = sym c.is_mark.ensures ∙ c.if-not-is_mark.false in
+    rw (p.1, p.2) (fails_second c.in_ok-token.ensures.0.reads (fails_left x (fails_second c.in_ok-mark.ensures.takes.reads (fails_second c.in_ok-inner.ensures (fails_first c.in_err-mark-2.ensures)))))
+
+pub word_sized-returns-in_err-width : goal.word_sized-returns-in_err-width
+word_sized-returns-in_err-width t c =
+    let p = err_from_is_err_and c.from_residual-in_err-width.result c.from_residual-in_err-width.ensures.1 in let x = sym c.is_mark.ensures ∙ c.if-not-is_mark.false in
+    rw (p.1, p.2) (fails_second c.in_ok-token.ensures.0.reads (fails_left x (fails_second c.in_ok-mark.ensures.takes.reads (fails_second c.in_ok-inner.ensures (fails_second c.in_ok-mark-2.ensures.takes.reads (fails_first c.in_err-width.ensures))))))
+
+pub word_sized-returns-in_err-mark-3 : goal.word_sized-returns-in_err-mark-3
+word_sized-returns-in_err-mark-3 t c =
+    let p = err_from_is_err_and c.from_residual-in_err-mark-3.result c.from_residual-in_err-mark-3.ensures.1 in let x = sym c.is_mark.ensures ∙ c.if-not-is_mark.false in
+    rw (p.1, p.2) (fails_second c.in_ok-token.ensures.0.reads (fails_left x (fails_second c.in_ok-mark.ensures.takes.reads (fails_second c.in_ok-inner.ensures (fails_second c.in_ok-mark-2.ensures.takes.reads (fails_second c.in_ok-width.ensures.reads c.in_err-mark-3.ensures))))))
+
+pub word_sized-returns-in_err-made : goal.word_sized-returns-in_err-made
+word_sized-returns-in_err-made t c =
+    let p = err_from_is_err_and c.from_residual-in_err-made.result c.from_residual-in_err-made.ensures.1 in
+    rw (p.1, p.2, c.in_err-made.ensures.err) (record { why = tt })
+
+pub word_sized-returns : goal.word_sized-returns
+word_sized-returns t c = let x = sym c.is_mark.ensures ∙ c.if-not-is_mark.false in
+    makes (reads_both c.in_ok-token.ensures.0.reads (reads_left x (reads_both c.in_ok-mark.ensures.takes.reads (reads_both c.in_ok-inner.ensures (reads_both c.in_ok-mark-2.ensures.takes.reads (reads_both c.in_ok-width.ensures.reads (c.in_ok-mark-3.ensures.takes.reads)))))))
+    (c.in_ok-made.ensures.ok _ c.in_ok-mark.ensures.it c.in_ok-mark-2.ensures.it c.in_ok-mark-3.ensures.it refl (resize_sort c.in_ok-token.ensures.0.reads.derives) (sym c.in_ok-text.ensures) (resize_kind c.in_ok-token.ensures.0.reads.derives))

@@ -28,6 +28,12 @@ decreases-word_unary l = 32 * (length (input l.self.now) - l.at.now) + 2
 abbrev pub decreases-word_prim : goal.decreases-word_prim
 decreases-word_prim l = 32 * (length (input l.self.now) - l.at.now) + 1
 
+abbrev pub decreases-word_picked : goal.decreases-word_picked
+decreases-word_picked l = 32 * (length (input l.self.now) - l.at.now) + 2
+
+abbrev pub decreases-word_sized : goal.decreases-word_sized
+decreases-word_sized l = 32 * (length (input l.self.now) - l.at.now)
+
 abbrev pub invariant-word_links-links : goal.invariant-word_links-links
 invariant-word_links-links l = WordChained l.level l.depth (input l.self) l.initial.at l.at l.links.items
 
