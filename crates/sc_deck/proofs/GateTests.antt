@@ -13,7 +13,8 @@ use Rattle.sc_gate.specs.declared.gate.Gate.{Gate}
 use Rattle.sc_gate.specs.Gates.{name_of, place_of}
 use Rattle.sc_gate.specs.Wires.{same_wire}
 use Rattle.sc_gate.proofs.WireLemmas.{same_wire-true}
-use Rattle.sc_deck.specs.Turns.{value_of, same_kind, same_option, same_gate, same_call}
+use Rattle.sc_deck.specs.Items.{value_of}
+use Rattle.sc_deck.specs.Turns.{same_kind, same_option, same_gate, same_call}
 
 both_true : (s t : Bool) → (s && t) ≡ true → (s ≡ true) × (t ≡ true)
 both_true true t h = (refl, h)

@@ -2,6 +2,8 @@ pub mod BodyLemmas
 pub mod CallLemmas
 pub mod CalleeLemmas
 pub mod DeckLemmas
+pub mod EarlierLaws
+pub mod TextLaws
 pub mod EarlierLemmas
 pub mod FindLemmas
 pub mod GateTests

@@ -16,7 +16,7 @@ use Rattle.sc_deck.specs.declared.item.Item.TheVariants as item
 use Rattle.sc_deck.specs.Items.{after_item}
 use Rattle.sc_deck.specs.Keys.{arg_classes, param_classes, with_arg, params_of}
 use Rattle.sc_deck.specs.Numbers.{Numbers, number_of, with_more, no_wires}
-use Rattle.sc_deck.specs.Unfolding.{wires_from, of_class, placed, made_by}
+use Rattle.sc_deck.specs.Unfolding.{wires_from, of_class, placed, places_with}
 
 same_class-true : (c d : Class) → same_class c d ≡ true → d ≡ c
 same_class-true Q Q h = refl
@@ -70,16 +70,16 @@ grows C C first n numbers = ap (λ (k : ℕ). numbers.cbits + k) (length_same C 
 grows Q C first n numbers = let h = length_other Q C first n refl in omega arith
 grows C Q first n numbers = let h = length_other C Q first n refl in omega arith
 
-pub Sized-item : (places : List Wire) (numbers : Numbers) (i : Item) (next : Numbers) → Sized places numbers → Sized (places ++ made_by i next) (after_item numbers i)
+pub Sized-item : (places : List Wire) (numbers : Numbers) (i : Item) (next : Numbers) → Sized places numbers → Sized (places_with i places next) (after_item numbers i)
 Sized-item places numbers (item.Fresh other n) next sized = record {
   count = λ class. length_more class places (wires_from other (number_of other next) n)
       ∙ ap (λ (k : ℕ). k + length (of_class class (wires_from other (number_of other next) n))) (sized.count class)
       ∙ grows class other (number_of other next) n numbers;
 }
-Sized-item places numbers (item.Gate gate) next sized = subst (λ (ws : List Wire). Sized ws numbers) (sym (append-nil places)) sized
-Sized-item places numbers (item.Call callee wires) next sized = subst (λ (ws : List Wire). Sized ws numbers) (sym (append-nil places)) sized
-Sized-item places numbers (item.Gates gate turns) next sized = subst (λ (ws : List Wire). Sized ws numbers) (sym (append-nil places)) sized
-Sized-item places numbers (item.Calls callee wires turns) next sized = subst (λ (ws : List Wire). Sized ws numbers) (sym (append-nil places)) sized
+Sized-item places numbers (item.Gate gate) next sized = sized
+Sized-item places numbers (item.Call callee wires) next sized = sized
+Sized-item places numbers (item.Gates gate turns) next sized = sized
+Sized-item places numbers (item.Calls callee wires turns) next sized = sized
 
 -- how many of some classes are one class
 count : Class → List Class → ℕ

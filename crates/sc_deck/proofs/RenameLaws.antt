@@ -21,7 +21,7 @@ use Rattle.sc_deck.specs.Keys.{param_classes, params_of}
 use Rattle.sc_deck.specs.Modules.{Module, body_of, from_earlier}
 use Rattle.sc_deck.specs.Numbers.{Numbers, number_of, with_more, IsThere, AreThere}
 use Rattle.sc_deck.specs.Renaming.{wire, Renames, CanRename}
-use Rattle.sc_deck.specs.Unfolding.{Unfolding, unfolding_at, unfold_item, unfold_items, unfold_module, unfoldings, unfold_on, made_by, repeated, placed, wires_from, of_class}
+use Rattle.sc_deck.specs.Unfolding.{Unfolding, unfolding_at, unfold_item, unfold_items, unfold_module, unfoldings, unfold_on, places_with, repeated, placed, wires_from, of_class}
 use Rattle.sc_deck.proofs.ListLemmas.{slice_get_left, slice_get_last}
 use Rattle.sc_deck.proofs.PlaceLaws.{Sized, Sized-item, Sized-params, placed-map, placed-class}
 use Rattle.sc_deck.proofs.SequenceLaws.{unfolding_at-before, unfolding_at-seam}
@@ -78,12 +78,14 @@ made_wires f class first first' (suc n) fresh =
     ap (λ (m : ℕ). f (wire class m)) c ∙ fresh (suc k) ∙ ap (wire class) d) in
     λ i. here i ∷ rest i
 
-made_renamed : (f : Wire → Wire) (i : Item) (next next' : Numbers) → Renames f next next' → map f (made_by i next) ≡ made_by i next'
-made_renamed f (item.Fresh class n) next next' renames = made_wires f class (number_of class next) (number_of class next') n (renames.fresh class)
-made_renamed f (item.Gate gate) next next' renames = refl
-made_renamed f (item.Call callee wires) next next' renames = refl
-made_renamed f (item.Gates gate turns) next next' renames = refl
-made_renamed f (item.Calls callee wires turns) next next' renames = refl
+places_renamed : (f : Wire → Wire) (i : Item) (places : List Wire) (next next' : Numbers) → Renames f next next' → places_with i (map f places) next' ≡ map f (places_with i places next)
+places_renamed f (item.Fresh class n) places next next' renames =
+    ap (λ (ws : List Wire). map f places ++ ws) (sym (made_wires f class (number_of class next) (number_of class next') n (renames.fresh class)))
+    ∙ sym (map-append f places (wires_from class (number_of class next) n))
+places_renamed f (item.Gate gate) places next next' renames = refl
+places_renamed f (item.Call callee wires) places next next' renames = refl
+places_renamed f (item.Gates gate turns) places next next' renames = refl
+places_renamed f (item.Calls callee wires turns) places next next' renames = refl
 
 module _ (f : Wire → Wire) (keeps : (w : Wire) → class_of (f w) ≡ class_of w) (places : List Wire) (numbers : Numbers) (sized : Sized places numbers) where
   there : (w : Wire) → IsThere numbers w → w.number < length (of_class w.class places)
@@ -165,13 +167,13 @@ unfold_items-rename us before can f numbers places sized [] fits calls next next
 unfold_items-rename us before can f numbers places sized (i ∷ items) fits calls next next' renames =
     let events : List Event = unfold_item us i places next in
     let here = item_renamed us before can f numbers places sized i fits.0 calls.0 next next' renames in
-    let made : map f places ++ made_by i next' ≡ map f (places ++ made_by i next) = ap (λ (ws : List Wire). map f places ++ ws) (sym (made_renamed f i next next' renames)) ∙ sym (map-append f places (made_by i next)) in
-    let rest = unfold_items-rename us before can f (after_item numbers i) (places ++ made_by i next) (Sized-item places numbers i next sized) items fits.1 calls.1
+    let made = places_renamed f i places next next' renames in
+    let rest = unfold_items-rename us before can f (after_item numbers i) (places_with i places next) (Sized-item places numbers i next sized) items fits.1 calls.1
     (after_events next events) (after_events next' events) (Renames-after f next next' events renames) in
     (λ k. here k ++ unfold_items us items (made k) (after_events next' (here k)))
-    ∙ ap (λ (n : Numbers). map (rename_event f) events ++ unfold_items us items (map f (places ++ made_by i next)) n) (after_events-rename f next' events)
+    ∙ ap (λ (n : Numbers). map (rename_event f) events ++ unfold_items us items (map f (places_with i places next)) n) (after_events-rename f next' events)
     ∙ ap (λ (es : List Event). map (rename_event f) events ++ es) rest
-    ∙ sym (map-append (rename_event f) events (unfold_items us items (places ++ made_by i next) (after_events next events)))
+    ∙ sym (map-append (rename_event f) events (unfold_items us items (places_with i places next) (after_events next events)))
 
 module_renamed : (us : List Unfolding) (before : List Module) → EachRenames us before → (m : Module) → IsBody (body_of m) → CallsFit before m.items → CanRename m (unfold_module us m)
 module_renamed us before can m body calls f wires next next' classes renames =

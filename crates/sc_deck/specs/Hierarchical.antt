@@ -1,9 +1,9 @@
 -- Hierarchical texts of keys with items.
-use Rattle.std.specs.Prelude.{◌≡◌, ℕ, ◌+◌, ◌≤◌, ◌<◌, ◌^◌, ◌⊎◌, ℤ, Bool, true, false, ◌||◌, ◌==◌, List, [], ◌∷◌, ◌++◌, map, flat_map, length, codes, decimal, unsigned_abs, FitsSigned, if◌then◌else◌, All, AllPairs, ◌≢◌}
+use Rattle.std.specs.Prelude.{◌≡◌, ℕ, ◌+◌, ◌≤◌, ◌⊎◌, ℤ, Bool, true, false, ◌||◌, ◌==◌, List, [], ◌∷◌, ◌++◌, map, flat_map, length, codes, decimal, unsigned_abs, if◌then◌else◌, All, AllPairs, ◌≢◌}
 use Rattle.std.specs.List.{list_any, join_with_byte, AllPass}
 use Rattle.std.specs.Char.{is_ascii_alphabetic, is_ascii_alphanumeric}
 use Rattle.std.specs.Fmt.{sign_text}
-use Rattle.std.specs.Int.{is_negative, w64}
+use Rattle.std.specs.Int.{is_negative}
 use Rattle.sc_base.specs.declared.names.Class.{Class}
 use Rattle.sc_base.specs.declared.names.Class.TheVariants.{Q, C}
 use Rattle.sc_base.specs.Decimals.{fixed_text}
@@ -15,11 +15,12 @@ use Rattle.sc_deck.specs.declared.key.Arg.{Arg}
 use Rattle.sc_deck.specs.declared.key.Arg.TheVariants.{Int, Double, One, Many}
 use Rattle.sc_deck.specs.declared.key.Key.{Key}
 use Rattle.sc_deck.specs.Bodies.{ItemsFit, wires_of}
+use Rattle.sc_deck.specs.Items.{ItemInRange}
 use Rattle.sc_deck.specs.Decks.{CallEarlier, IsWhole}
-use Rattle.sc_deck.specs.Keys.{params_of, HasLengths}
+use Rattle.sc_deck.specs.Keys.{params_of, HasLengths, ArgInRange}
 use Rattle.sc_deck.specs.Modules.{Module, key_of, body_of, heights_of}
 use Rattle.sc_deck.specs.Numbers.{both}
-use Rattle.sc_deck.specs.Turns.{has_turns, value_of}
+use Rattle.sc_deck.specs.Turns.{has_turns}
 
 -- a number with its sign
 abbrev pub int_text : ℤ → List ℕ
@@ -85,23 +86,8 @@ abbrev pub IsModuleName : List ℕ → Type 0
 IsModuleName [] = ⊥
 IsModuleName (c ∷ cs) = ((is_ascii_alphabetic c || c == 95) ≡ true) × AllPass (λ d. is_ascii_alphanumeric d || d == 95) cs
 
--- an `int` or a `double` is in range
-abbrev pub ArgInRange : Arg → Type 0
-ArgInRange (Int n) = FitsSigned w64 n
-ArgInRange (Double x) = FitsSigned w64 x.0
-ArgInRange (One class) = Unit {0}
-ArgInRange (Many class n) = Unit {0}
-
--- an angle is in range, and so is a number of turns
-abbrev pub ItemInRange : Item → Type 0
-ItemInRange (item.Fresh class n) = Unit {0}
-ItemInRange (item.Gate gate) = FitsSigned w64 (value_of gate.kind)
-ItemInRange (item.Call callee wires) = Unit {0}
-ItemInRange (item.Gates gate turns) = FitsSigned w64 (value_of gate.kind) × (turns < 2 ^ 64)
-ItemInRange (item.Calls callee wires turns) = turns < 2 ^ 64
-
--- the rules that hold in every hierarchical text
-pub record IsProper (modules : List Module) : Type 0 where
+-- the rules that hold of the modules of every hierarchical text, and of each front of them
+pub record AreProper (modules : List Module) : Type 0 where
   pub names : All (λ m. IsModuleName m.key.name) modules
   pub args : All (λ m. All ArgInRange m.key.args) modules
   pub in_range : All (λ m. All ItemInRange m.items) modules
@@ -111,6 +97,10 @@ pub record IsProper (modules : List Module) : Type 0 where
   -- fresh wires, turns, and operands that are there and distinct
   pub fits : All (λ m. ItemsFit (params_of m.key) m.items) modules
   pub calls : CallEarlier [] modules
+
+-- the rules that hold of every hierarchical text
+pub record IsProper (modules : List Module) : Type 0 where
+  pub rules : AreProper modules
   pub whole : IsWhole modules
 
 -- the limits on modules

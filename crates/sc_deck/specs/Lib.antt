@@ -10,6 +10,7 @@ pub mod KeyLaws
 pub mod Keys
 pub mod Modules
 pub mod Numbers
+pub mod Placing
 pub mod Renaming
 pub mod Repeats
 pub mod Turns

@@ -1,15 +1,15 @@
 -- Items with turns, written out and folded.
-use Rattle.std.specs.Prelude.{ℕ, ◌+◌, ℤ, pos, nat_eq, Bool, true, false, ◌&&◌, Option, Some, None, List, [], ◌∷◌, map, fold, replicate, if◌then◌else◌}
+use Rattle.std.specs.Prelude.{ℕ, ◌+◌, nat_eq, Bool, true, false, ◌&&◌, Option, Some, None, List, [], ◌∷◌, map, fold, replicate, if◌then◌else◌}
 use Rattle.std.specs.Cmp.Lexicographic.{pointwise}
 use Rattle.std.specs.Ordering.{int_eq}
 use Rattle.sc_gate.specs.declared.gate.Wire.{Wire}
 use Rattle.sc_gate.specs.declared.gate.Kind.{Kind}
-use Rattle.sc_gate.specs.declared.gate.Kind.TheVariants as kind
 use Rattle.sc_gate.specs.declared.gate.Gate.{Gate}
 use Rattle.sc_gate.specs.Gates.{name_of, place_of}
 use Rattle.sc_gate.specs.Wires.{same_wire}
 use Rattle.sc_deck.specs.declared.item.Item.{Item}
 use Rattle.sc_deck.specs.declared.item.Item.TheVariants as item
+use Rattle.sc_deck.specs.Items.{value_of}
 use Rattle.sc_deck.specs.Modules.{Module}
 
 -- an item with n turns stands for n equal items
@@ -27,15 +27,6 @@ has_turns (item.Gate gate) = false
 has_turns (item.Call callee wires) = false
 has_turns (item.Gates gate turns) = true
 has_turns (item.Calls callee wires turns) = true
-
--- the angle or the start value of a kind, as a number
-abbrev pub value_of : Kind → ℤ
-value_of (kind.Rx angle) = angle.0
-value_of (kind.Ry angle) = angle.0
-value_of (kind.Rz angle) = angle.0
-value_of (kind.PrepX start) = if start then pos 1 else pos 0
-value_of (kind.PrepZ start) = if start then pos 1 else pos 0
-value_of _ = pos 0
 
 -- the same name and the same angle or start value
 abbrev pub same_kind : Kind → Kind → Bool

@@ -4,6 +4,7 @@ ghost use Rattle.sc_gate.specs.Gates.{operands, AreDistinct, IsWellFormed};
 ghost use Rattle.sc_deck.specs.Bodies.{wires_of, with_item, empty_body, IsBody};
 ghost use Rattle.sc_deck.specs.Numbers.{number_of, both, AreThere};
 
+use crate::range::kind_has_range;
 use crate::{Item, Operands};
 use sc_base::{Class, List, Memory};
 use sc_gate::{Gate, Wire};
@@ -70,6 +71,7 @@ impl Body {
         ensures ok { OnOk result (self.new ≡ with_item self.old (Item.Gate gate)) }
         ensures err { OnErr result (self.new ≡ self.old) }
     {
+        kind_has_range(gate.kind);
         self.items.push(Item::Gate(gate))?;
         Ok(())
     }
@@ -94,6 +96,7 @@ impl Body {
         ensures ok { OnOk result (self.new ≡ with_item self.old (Item.Gates gate turns)) }
         ensures err { OnErr result (self.new ≡ self.old) }
     {
+        kind_has_range(gate.kind);
         self.items.push(Item::Gates(gate, turns))?;
         Ok(())
     }

@@ -13,6 +13,7 @@ ghost use Rattle.sc_deck.specs.Modules.{Module, key_of, body_of, heights_of, rea
 ghost use Rattle.sc_deck.specs.Entries.{height_in, reach_in};
 
 use crate::entry::Entry;
+use crate::range::args_have_ranges;
 use crate::{Arg, Body, Item, Key};
 use indexmap::IndexMap;
 use sc_base::{Class, Memory};
@@ -61,6 +62,7 @@ impl Deck {
         ensures pushed { OnOk result (self.new ≡ self.old ++ record { key = key; items = body.items } ∷ []) }
         ensures err { OnErr result (self.new ≡ self.old) }
     {
+        args_have_ranges(key.args.as_slice());
         let number = self.entries.len() as u32;
         let (height, reach) = called_by_all(&self.entries, body.items());
         let height = height + 1;

@@ -1,14 +1,16 @@
 //! What is true of the unfoldings of all module lists.
-ghost use Rattle.std.specs.Prelude.{◌≡◌, ◌<◌, [], ◌∷◌, ◌++◌, ℕ, List, Some, flat_map, length, slice_get};
+ghost use Rattle.std.specs.Prelude.{◌≡◌, ◌<◌, [], ◌∷◌, ◌++◌, ℕ, List, Some, codes, flat_map, length, slice_get};
 ghost use Rattle.sc_gate.specs.declared.gate.Wire.{Wire};
 ghost use Rattle.sc_deck.specs.declared.item.Item.{Item};
 ghost use Rattle.sc_deck.specs.Decks.{IsDeck};
 ghost use Rattle.sc_deck.specs.Events.{Event, after_events};
-ghost use Rattle.sc_deck.specs.Modules.{Module};
+ghost use Rattle.sc_deck.specs.Examples.{g_twice, g_repeated, eight_gates};
+ghost use Rattle.sc_deck.specs.Hierarchical.{hier, AreProper, IsHier, IsSound, IsWithinLimits};
+ghost use Rattle.sc_deck.specs.Modules.{Module, height_over, heights_of, reach_over, reaches_of};
 ghost use Rattle.sc_deck.specs.Numbers.{Numbers};
 ghost use Rattle.sc_deck.specs.Renaming.{CanRename};
 ghost use Rattle.sc_deck.specs.Turns.{written_out, with_folded, folded, folded_modules};
-ghost use Rattle.sc_deck.specs.Unfolding.{Unfolding, unfold_items, unfold_module, unfoldings, unfold_on, expansion, places_after};
+ghost use Rattle.sc_deck.specs.Unfolding.{Unfolding, unfold_items, unfold_module, unfoldings, unfold_on, expansion, gates_of, places_after};
 
 /// The events of items in sequence are those of the first part and then those of the second, from where the first ends.
 pub fn items_in_sequence()
@@ -45,4 +47,35 @@ pub fn folding_keeps_events()
 pub fn other_wires_rename_events()
     ensures { (modules : List Module) → IsDeck modules → (i : ℕ) (m : Module) → slice_get modules i ≡ Some m →
         CanRename m (unfold_on modules i) }
+{}
+
+/// The worked example: both module lists unfold to the eight gates, the second is the first one folded, and this is its text.
+pub fn worked_example()
+    ensures twice { gates_of g_twice 1 ≡ eight_gates }
+    ensures repeated { gates_of g_repeated 1 ≡ eight_gates }
+    ensures folded { folded_modules g_twice ≡ g_repeated }
+    ensures text { hier g_repeated ≡ codes "hier 2\nmodule 0 g(q)\nqbit 1\nrepeat 3 H q1\nCNOT q1,q0\nend\nmodule 1 main()\nqbit 1\nrepeat 2 call 0 q0\nend\n" }
+{}
+
+/// Each module of a deck unfolds to its entering, its items over the unfoldings of its callees, and its return.
+/// Its height and its reach are made of those of its callees in the same way.
+pub fn modules_from_callees()
+    ensures events { (modules : List Module) → IsDeck modules → (i : ℕ) (m : Module) → slice_get modules i ≡ Some m →
+        unfold_on modules i ≡ unfold_module (unfoldings modules) m }
+    ensures height { (modules : List Module) → IsDeck modules → (i : ℕ) (m : Module) → slice_get modules i ≡ Some m →
+        slice_get (heights_of modules) i ≡ Some (height_over (heights_of modules) m) }
+    ensures reach { (modules : List Module) → IsDeck modules → (i : ℕ) (m : Module) → slice_get modules i ≡ Some m →
+        slice_get (reaches_of modules) i ≡ Some (reach_over (reaches_of modules) m) }
+{}
+
+/// The text of a sound deck is a hierarchical text of its modules, and they are within the limits.
+pub fn sound_decks_have_texts()
+    ensures text { (modules : List Module) → IsDeck modules → IsSound modules → IsHier (hier modules) modules }
+    ensures limits { (modules : List Module) → IsDeck modules → IsSound modules → IsWithinLimits modules }
+{}
+
+/// The rules for modules hold of each front of a list of which they hold.
+pub fn fronts_are_proper()
+    ensures deck { (modules more : List Module) → IsDeck (modules ++ more) → IsDeck modules }
+    ensures text { (modules more : List Module) → AreProper (modules ++ more) → AreProper modules }
 {}

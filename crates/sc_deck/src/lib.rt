@@ -7,6 +7,7 @@ mod entry;
 mod item;
 mod key;
 pub mod laws;
+mod range;
 mod repeat;
 
 pub use body::Body;
@@ -14,6 +15,3 @@ pub use deck::Deck;
 pub use item::{Item, Operands};
 pub use key::{Arg, Key};
 pub use repeat::first_repeat;
-
-#[cfg(test)]
-mod tests;

@@ -1,2 +1,5 @@
 //! Tests of decks and what stands on them, schedules and their checker.
 #![tactic(auto)]
+
+#[cfg(test)]
+mod deck;
