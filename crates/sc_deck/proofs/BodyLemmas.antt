@@ -4,7 +4,7 @@ use Rattle.std.proofs.Common.{◌≡◌, ℕ, ◌+◌, ◌≤◌, List, [], ◌�
 use Rattle.sc_deck.specs.declared.item.Item.{Item}
 use Rattle.sc_deck.specs.Bodies.{Contents, after_items, wires_of, ItemsFit, with_item, Counts}
 use Rattle.sc_deck.specs.Items.{after_item, ItemFits, ItemInRange}
-use Rattle.sc_deck.specs.Numbers.{Numbers, both}
+use Rattle.sc_gate.specs.Numbers.{Numbers, both}
 
 pub after_items-push : (numbers : Numbers) (items : List Item) (i : Item) → after_items numbers (items ++ i ∷ []) ≡ after_item (after_items numbers items) i
 after_items-push numbers [] i = refl

@@ -21,7 +21,7 @@ use Rattle.sc_deck.specs.Keys.{HasLengths, ArgInRange, params_of}
 use Rattle.sc_deck.specs.Modules.{Module, key_of, body_of, height_over, heights_of, reach_over, reaches_of, greatest_called, calls, is_called}
 use Rattle.sc_deck.specs.Decks.{CallsFit, CallEarlier, IsNewKey, IsDeck}
 use Rattle.sc_deck.specs.Entries.{module_in, modules_in, height_in, reach_in, KeepsDeck}
-use Rattle.sc_deck.specs.Numbers.{both}
+use Rattle.sc_gate.specs.Numbers.{both}
 use Rattle.sc_deck.proofs.EarlierLemmas.{from_earlier-push}
 
 CallEarlier-push : (before modules : List Module) (m : Module) → CallEarlier before modules → CallsFit (before ++ modules) m.items → CallEarlier before (modules ++ m ∷ [])

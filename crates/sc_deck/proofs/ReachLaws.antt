@@ -14,7 +14,7 @@ use Rattle.sc_deck.specs.CallChains.{Calls, IsCallChain, wires_at, chain_wires, 
 use Rattle.sc_deck.specs.Decks.{CallsFit, CallEarlier, IsDeck}
 use Rattle.sc_deck.specs.Items.{callees_of}
 use Rattle.sc_deck.specs.Modules.{Module, body_of, from_earlier, greatest, greatest_called, reach_over, reaches_of}
-use Rattle.sc_deck.specs.Numbers.{both}
+use Rattle.sc_gate.specs.Numbers.{both}
 use Rattle.sc_deck.proofs.EarlierLaws.{callees_below, index_front, indexes_front}
 use Rattle.sc_deck.proofs.ListLemmas.{slice_get_left, slice_get_last, slice_get_there}
 

@@ -15,16 +15,17 @@ use Rattle.sc_deck.specs.declared.item.Item.{Item}
 use Rattle.sc_deck.specs.declared.item.Item.TheVariants as item
 use Rattle.sc_deck.specs.Bodies.{ItemsFit, IsBody}
 use Rattle.sc_deck.specs.Decks.{CallFits, ItemCallFits, CallsFit, CallEarlier, IsDeck}
-use Rattle.sc_deck.specs.Events.{Event, Enter, Fresh, Apply, Return, gates_in, after_events, rename_gate, rename_event}
+use Rattle.sc_deck.specs.Events.{Event, Enter, Fresh, Apply, Return, gates_in, after_events, rename_event}
+use Rattle.sc_gate.specs.Renaming.{rename_gate}
 use Rattle.sc_deck.specs.Items.{ItemFits, after_item}
 use Rattle.sc_deck.specs.Keys.{param_classes, params_of}
 use Rattle.sc_deck.specs.Modules.{Module, body_of, from_earlier}
-use Rattle.sc_deck.specs.Numbers.{Numbers, number_of, with_more, IsThere, AreThere}
+use Rattle.sc_gate.specs.Numbers.{Numbers, number_of, with_more, IsThere, AreThere}
 use Rattle.sc_deck.specs.Renaming.{wire, Renames, CanRename}
 use Rattle.sc_deck.specs.Unfolding.{Unfolding, unfolding_at, unfold_item, unfold_items, unfold_module, unfoldings, unfold_on, places_with, repeated, placed, wires_from, of_class}
-use Rattle.sc_deck.proofs.ListLemmas.{slice_get_left, slice_get_last}
-use Rattle.sc_deck.proofs.PlaceLaws.{Sized, Sized-item, Sized-params, placed-map, placed-class}
-use Rattle.sc_deck.proofs.SequenceLaws.{unfolding_at-before, unfolding_at-seam}
+use Rattle.sc_deck.proofs.EachUnfolding.{Each, each_unfolding}
+use Rattle.sc_deck.specs.Placing.{Sized}
+use Rattle.sc_deck.proofs.PlaceLaws.{Sized-item, Sized-params, placed-map, placed-class}
 
 -- the gates of renamed events are the renamed gates
 pub gates_in-rename : (f : Wire → Wire) (events : List Event) → gates_in (map (rename_event f) events) ≡ map (rename_gate f) (gates_in events)
@@ -131,9 +132,8 @@ repeated_renamed f once once' same (suc n) next next' renames =
     ∙ sym (map-append (rename_event f) (once next) (repeated n once (after_events next (once next))))
 
 -- each of these unfoldings can be renamed
-pub record EachRenames (us : List Unfolding) (modules : List Module) : Type 0 where
-  pub long : length us ≡ length modules
-  pub each : (i : ℕ) (m : Module) → slice_get modules i ≡ Some m → CanRename m (unfolding_at us i)
+abbrev pub EachRenames : List Unfolding → List Module → Type 0
+EachRenames us modules = Each CanRename us modules
 
 call_renamed : (us : List Unfolding) (before : List Module) → EachRenames us before → (f : Wire → Wire) (callee : ℕ) (wires passed passed' : List Wire) (next next' : Numbers) →
     CallFits before callee wires → map class_of passed ≡ map class_of wires → passed' ≡ map f passed → Renames f next next' →
@@ -181,32 +181,9 @@ module_renamed us before can m body calls f wires next next' classes renames =
     ap (λ (es : List Event). Enter m.key (map f wires) ∷ (es ++ Return m.key ∷ [])) inner
     ∙ ap (λ (es : List Event). Enter m.key (map f wires) ∷ es) (sym (map-append (rename_event f) (unfold_items us m.items wires next) (Return m.key ∷ [])))
 
--- one more unfolding
-each_push : (us : List Unfolding) (before : List Module) → EachRenames us before → (m : Module) (u : Unfolding) → CanRename m u → EachRenames (us ++ u ∷ []) (before ++ m ∷ [])
-each_push us before can m u one = record {
-  long = length-append us (u ∷ []) ∙ ap (λ (n : ℕ). n + 1) can.long ∙ sym (length-append before (m ∷ []));
-  each = λ i k at. by i k at (cases_lt i (length before));
-}
-  where
-    by : (i : ℕ) (k : Module) → slice_get (before ++ m ∷ []) i ≡ Some k → (i < length before) ⊎ (length before ≤ i) → CanRename k (unfolding_at (us ++ u ∷ []) i)
-    by i k at (inl early) =
-        subst (CanRename k) (sym (unfolding_at-before us (u ∷ []) i (subst (λ (n : ℕ). i < n) (sym can.long) early)))
-        (can.each i k (sym (slice_get_left before (m ∷ []) i early) ∙ at))
-    by i k at (inr late) =
-        let last = slice_get_last before m i k late at in
-        subst (CanRename k) (sym (ap (unfolding_at (us ++ u ∷ [])) (last.0 ∙ sym can.long) ∙ unfolding_at-seam us u [])) (subst (λ (x : Module). CanRename x u) last.1 one)
-
-all_renamed : (us : List Unfolding) (before modules : List Module) → EachRenames us before → AllByRecursion (λ (m : Module). IsBody (body_of m)) modules → CallEarlier before modules → EachRenames (from_earlier unfold_module us modules) (before ++ modules)
-all_renamed us before [] can bodies calls = subst (λ (ms : List Module). EachRenames us ms) (sym (append-nil before)) can
-all_renamed us before (m ∷ modules) can bodies calls =
-    subst (λ (ms : List Module). EachRenames (from_earlier unfold_module (us ++ unfold_module us m ∷ []) modules) ms) (append_assoc before (m ∷ []) modules)
-    (all_renamed (us ++ unfold_module us m ∷ []) (before ++ m ∷ []) modules
-    (each_push us before can m (unfold_module us m) (module_renamed us before can m bodies.0 calls.0)) bodies.1 calls.1)
-
 -- RENAMING: each body of a deck
 pub unfoldings-rename : (modules : List Module) → IsDeck modules → EachRenames (unfoldings modules) modules
-unfoldings-rename modules deck =
-    all_renamed [] [] modules (record { long = refl; each = λ i m at. cc }) (recursion_from_All (λ (m : Module). IsBody (body_of m)) modules deck.bodies) deck.calls
+unfoldings-rename modules deck = each_unfolding CanRename module_renamed modules deck
 
 pub unfold_on-rename : (modules : List Module) → IsDeck modules → (i : ℕ) (m : Module) → slice_get modules i ≡ Some m → CanRename m (unfold_on modules i)
 unfold_on-rename modules deck i m at = (unfoldings-rename modules deck).each i m at

@@ -7,7 +7,7 @@ use Rattle.sc_gate.specs.declared.gate.Gate.{Gate}
 use Rattle.sc_deck.specs.declared.item.Item.{Item}
 use Rattle.sc_deck.specs.Events.{Event, Enter, Fresh, Apply, Return, gates_in, after_events, fresh_in}
 use Rattle.sc_deck.specs.Modules.{Module, from_earlier}
-use Rattle.sc_deck.specs.Numbers.{Numbers, number_of, with_more, no_wires}
+use Rattle.sc_gate.specs.Numbers.{Numbers, number_of, with_more, no_wires}
 use Rattle.sc_deck.specs.Unfolding.{Unfolding, unfolding_at, unfold_item, unfold_items, unfold_module, unfoldings, unfold_on, places_with, places_after, repeated}
 use Rattle.sc_deck.proofs.EarlierLemmas.{from_earlier-push}
 

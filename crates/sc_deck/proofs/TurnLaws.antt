@@ -11,10 +11,12 @@ use Rattle.sc_deck.specs.declared.item.Item.TheVariants as item
 use Rattle.sc_deck.specs.Events.{Event, Enter, Return, after_events}
 use Rattle.sc_deck.specs.Keys.{param_classes, params_of}
 use Rattle.sc_deck.specs.Modules.{Module, from_earlier}
-use Rattle.sc_deck.specs.Numbers.{Numbers, no_wires}
-use Rattle.sc_deck.specs.Turns.{written_out, same_gate, same_call, joined, with_folded, folded, folded_module, folded_modules}
+use Rattle.sc_gate.specs.Numbers.{Numbers, no_wires}
+use Rattle.sc_deck.specs.Turns.{written_out, same_call, joined, with_folded, folded, folded_module, folded_modules}
+use Rattle.sc_gate.specs.SameGates.{same_gate}
 use Rattle.sc_deck.specs.Unfolding.{Unfolding, unfolding_at, unfold_item, unfold_items, unfold_module, unfoldings, unfold_on, expansion, numbered, places_with, places_after, repeated}
-use Rattle.sc_deck.proofs.GateTests.{same_gate-true, same_call-true}
+use Rattle.sc_deck.proofs.GateTests.{same_call-true}
+use Rattle.sc_gate.proofs.SameGates.{same_gate-true}
 use Rattle.sc_deck.proofs.SequenceLaws.{unfold_items-append}
 
 -- an item that makes no wires, again and again
@@ -130,7 +132,7 @@ folded-push items i = onto [] items
 unfold_module-folded : (us : List Unfolding) (m : Module) → unfold_module us (folded_module m) ≡ unfold_module us m
 unfold_module-folded us m = λ k wires next. Enter m.key wires ∷ (unfold_items-folded us m.items wires next k ++ Return m.key ∷ [])
 
-from_earlier-map : {A : Type 0} (f : List A → Module → A) (h : Module → Module) → ((done : List A) (m : Module) → f done (h m) ≡ f done m) → (done : List A) (modules : List Module) → from_earlier f done (map h modules) ≡ from_earlier f done modules
+pub from_earlier-map : {A : Type 0} (f : List A → Module → A) (h : Module → Module) → ((done : List A) (m : Module) → f done (h m) ≡ f done m) → (done : List A) (modules : List Module) → from_earlier f done (map h modules) ≡ from_earlier f done modules
 from_earlier-map f h same done [] = refl
 from_earlier-map f h same done (m ∷ modules) =
     ap (λ x. from_earlier f (done ++ x ∷ []) (map h modules)) (same done m) ∙ from_earlier-map f h same (done ++ f done m ∷ []) modules

@@ -2,7 +2,7 @@
 use Rattle.std.specs.Prelude.{◌≡◌, ℕ, ◌≤◌, List, [], ◌∷◌, ◌++◌, All}
 use Rattle.sc_deck.specs.declared.item.Item.{Item}
 use Rattle.sc_deck.specs.Items.{after_item, ItemFits, ItemInRange}
-use Rattle.sc_deck.specs.Numbers.{Numbers, both}
+use Rattle.sc_gate.specs.Numbers.{Numbers, both}
 
 -- what contracts see of a body: the numbers of its parameter wires, and its items
 pub record Contents : Type 0 where

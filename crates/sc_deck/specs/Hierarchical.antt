@@ -19,7 +19,7 @@ use Rattle.sc_deck.specs.Items.{ItemInRange}
 use Rattle.sc_deck.specs.Decks.{CallEarlier, IsWhole}
 use Rattle.sc_deck.specs.Keys.{params_of, HasLengths, ArgInRange}
 use Rattle.sc_deck.specs.Modules.{Module, key_of, body_of, heights_of}
-use Rattle.sc_deck.specs.Numbers.{both}
+use Rattle.sc_gate.specs.Numbers.{both}
 use Rattle.sc_deck.specs.Turns.{has_turns}
 
 -- a number with its sign

@@ -9,7 +9,6 @@ pub mod Items
 pub mod KeyLaws
 pub mod Keys
 pub mod Modules
-pub mod Numbers
 pub mod Placing
 pub mod Renaming
 pub mod Repeats

@@ -6,7 +6,7 @@ use Rattle.sc_deck.specs.declared.key.Key.{Key}
 use Rattle.sc_deck.specs.Bodies.{Contents, wires_of}
 use Rattle.sc_deck.specs.Items.{callees_of}
 use Rattle.sc_deck.specs.Keys.{params_of}
-use Rattle.sc_deck.specs.Numbers.{both}
+use Rattle.sc_gate.specs.Numbers.{both}
 
 -- a key with its items, which call earlier modules of a list by their numbers
 pub record Module : Type 0 where

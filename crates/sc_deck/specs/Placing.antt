@@ -1,12 +1,14 @@
 -- The wires of an unfolding on other wires than the first numbers.
-use Rattle.std.specs.Prelude.{◌≡◌, ℕ, zero, suc, ◌+◌, ◌-◌, ◌<◌, List, [], ◌++◌, map, length, slice_index_or}
+use Rattle.std.specs.Prelude.{◌≡◌, ℕ, zero, suc, ◌+◌, ◌-◌, ◌<◌, ◌≤◌, ◌⊎◌, Contains, List, [], ◌++◌, map, length, slice_index_or}
 use Rattle.std.specs.List.{AllByRecursion}
 use Rattle.sc_base.specs.declared.names.Class.{Class}
 use Rattle.sc_gate.specs.declared.gate.Wire.{Wire}
+use Rattle.sc_gate.specs.declared.gate.Gate.{Gate}
+use Rattle.sc_gate.specs.Gates.{operands}
 use Rattle.sc_deck.specs.Events.{Event, after_events, rename_event}
 use Rattle.sc_deck.specs.Items.{callees_of}
 use Rattle.sc_deck.specs.Modules.{Module}
-use Rattle.sc_deck.specs.Numbers.{Numbers, number_of}
+use Rattle.sc_gate.specs.Numbers.{Numbers, number_of}
 use Rattle.sc_deck.specs.Unfolding.{of_class}
 
 -- the wire of this class that is as far behind the one number as w is behind the other
@@ -30,3 +32,15 @@ pub record Sized (places : List Wire) (numbers : Numbers) : Type 0 where
 -- f reads the values of callees alone: values that come later change nothing
 abbrev pub ReadsCallees : (A : Type 0) → (List A → Module → A) → Type 0
 ReadsCallees A f = (done more : List A) (m : Module) → AllByRecursion (λ j. j < length done) (callees_of m.items) → f (done ++ more) m ≡ f done m
+
+-- P holds of each operand of each gate
+abbrev pub GatesOn : (Wire → Type 0) → List Gate → Type 0
+GatesOn P gates = AllByRecursion (λ g. AllByRecursion P (operands g)) gates
+
+-- P holds of each wire from the one number of its class on and below the other
+abbrev pub Fills : (Wire → Type 0) → Numbers → Numbers → Type 0
+Fills P from to = (class : Class) (k : ℕ) → number_of class from ≤ k → k < number_of class to → P (record { class = class; number = k })
+
+-- one of these wires, or a fresh one from the one number of its class on and below the other
+abbrev pub IsPassedOrFresh : List Wire → Numbers → Numbers → Wire → Type 0
+IsPassedOrFresh wires next after w = Contains wires w ⊎ ((number_of w.class next ≤ w.number) × (w.number < number_of w.class after))

@@ -1,15 +1,12 @@
 -- Items with turns, written out and folded.
-use Rattle.std.specs.Prelude.{ℕ, ◌+◌, nat_eq, Bool, true, false, ◌&&◌, Option, Some, None, List, [], ◌∷◌, map, fold, replicate, if◌then◌else◌}
+use Rattle.std.specs.Prelude.{◌≡◌, ℕ, ◌+◌, nat_eq, Bool, true, false, ◌&&◌, List, [], ◌∷◌, map, fold, replicate, if◌then◌else◌}
 use Rattle.std.specs.Cmp.Lexicographic.{pointwise}
-use Rattle.std.specs.Ordering.{int_eq}
 use Rattle.sc_gate.specs.declared.gate.Wire.{Wire}
-use Rattle.sc_gate.specs.declared.gate.Kind.{Kind}
 use Rattle.sc_gate.specs.declared.gate.Gate.{Gate}
-use Rattle.sc_gate.specs.Gates.{name_of, place_of}
 use Rattle.sc_gate.specs.Wires.{same_wire}
 use Rattle.sc_deck.specs.declared.item.Item.{Item}
 use Rattle.sc_deck.specs.declared.item.Item.TheVariants as item
-use Rattle.sc_deck.specs.Items.{value_of}
+use Rattle.sc_gate.specs.SameGates.{same_gate}
 use Rattle.sc_deck.specs.Modules.{Module}
 
 -- an item with n turns stands for n equal items
@@ -28,22 +25,27 @@ has_turns (item.Call callee wires) = false
 has_turns (item.Gates gate turns) = true
 has_turns (item.Calls callee wires turns) = true
 
--- the same name and the same angle or start value
-abbrev pub same_kind : Kind → Kind → Bool
-same_kind k l = nat_eq (place_of (name_of k)) (place_of (name_of l)) && int_eq (value_of k) (value_of l)
-
-abbrev pub same_option : Option Wire → Option Wire → Bool
-same_option None None = true
-same_option None (Some w) = false
-same_option (Some v) None = false
-same_option (Some v) (Some w) = same_wire v w
-
--- the same kind on the same wires
-abbrev pub same_gate : Gate → Gate → Bool
-same_gate g h = same_kind g.kind h.kind && (same_wire g.a h.a && (same_option g.b h.b && same_option g.c h.c))
-
+-- a call of the same body on the same wires
 abbrev pub same_call : ℕ → List Wire → ℕ → List Wire → Bool
 same_call callee wires other others = nat_eq callee other && pointwise same_wire wires others
+
+-- the items apply the same gate, or make the same call, whatever their turns
+abbrev pub same_step : Item → Item → Bool
+same_step (item.Gate g) (item.Gate h) = same_gate g h
+same_step (item.Gate g) (item.Gates h m) = same_gate g h
+same_step (item.Gates g n) (item.Gate h) = same_gate g h
+same_step (item.Gates g n) (item.Gates h m) = same_gate g h
+same_step (item.Call c ws) (item.Call d vs) = same_call c ws d vs
+same_step (item.Call c ws) (item.Calls d vs m) = same_call c ws d vs
+same_step (item.Calls c ws n) (item.Call d vs) = same_call c ws d vs
+same_step (item.Calls c ws n) (item.Calls d vs m) = same_call c ws d vs
+same_step i j = false
+
+-- no item is followed by the same gate or the same call
+abbrev pub NeighboursDiffer : List Item → Type 0
+NeighboursDiffer [] = Unit {0}
+NeighboursDiffer (i ∷ []) = Unit {0}
+NeighboursDiffer (i ∷ j ∷ items) = (same_step i j ≡ false) × NeighboursDiffer (j ∷ items)
 
 -- an item after another: one item with turns where both are the same gate, or the same call
 abbrev pub joined : Item → Item → List Item

@@ -7,10 +7,11 @@ use Rattle.sc_gate.specs.declared.gate.Gate.{Gate}
 use Rattle.sc_gate.specs.Wires.{same_class}
 use Rattle.sc_deck.specs.declared.item.Item.{Item}
 use Rattle.sc_deck.specs.declared.item.Item.TheVariants as item
-use Rattle.sc_deck.specs.Events.{Event, Enter, Fresh, Apply, Return, gates_in, after_events, rename_gate}
+use Rattle.sc_deck.specs.Events.{Event, Enter, Fresh, Apply, Return, gates_in, after_events}
+use Rattle.sc_gate.specs.Renaming.{rename_gate}
 use Rattle.sc_deck.specs.Keys.{param_classes, params_of}
 use Rattle.sc_deck.specs.Modules.{Module, from_earlier}
-use Rattle.sc_deck.specs.Numbers.{Numbers, number_of, with_more, no_wires}
+use Rattle.sc_gate.specs.Numbers.{Numbers, number_of, with_more, no_wires}
 
 -- n wires of a class, from a number on
 abbrev pub wires_from : Class → ℕ → ℕ → List Wire

@@ -2,7 +2,7 @@
 ghost use Rattle.std.specs.Prelude.{◌≡◌, ◌+◌, ◌≤◌, OnOk, OnErr};
 ghost use Rattle.sc_gate.specs.Gates.{operands, AreDistinct, IsWellFormed};
 ghost use Rattle.sc_deck.specs.Bodies.{wires_of, with_item, empty_body, IsBody};
-ghost use Rattle.sc_deck.specs.Numbers.{number_of, both, AreThere};
+ghost use Rattle.sc_gate.specs.Numbers.{number_of, both, AreThere};
 
 use crate::range::kind_has_range;
 use crate::{Item, Operands};

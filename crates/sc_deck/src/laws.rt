@@ -1,16 +1,23 @@
 //! What is true of the unfoldings of all module lists.
-ghost use Rattle.std.specs.Prelude.{◌≡◌, ◌<◌, [], ◌∷◌, ◌++◌, ℕ, List, Some, codes, flat_map, length, slice_get};
+ghost use Rattle.std.specs.Prelude.{◌≡◌, ◌<◌, ◌≤◌, ◌↔◌, ◌+◌, ◌-◌, ◌*◌, [], ◌∷◌, ◌++◌, ℕ, List, Some, codes, map, flat_map, length, take, slice_get, slice_index, IsTrue, All};
+ghost use Rattle.sc_base.specs.declared.names.Class.{Class};
 ghost use Rattle.sc_gate.specs.declared.gate.Wire.{Wire};
+ghost use Rattle.sc_gate.specs.Gates.{class_of, AreDistinct, AreWellFormed};
+ghost use Rattle.sc_gate.specs.Numbers.{Numbers, number_of, no_wires, IsThere, AreThere};
+ghost use Rattle.sc_gate.specs.Renaming.{rename_gate, KeepsClasses, IsOneToOne};
 ghost use Rattle.sc_deck.specs.declared.item.Item.{Item};
-ghost use Rattle.sc_deck.specs.Decks.{IsDeck};
-ghost use Rattle.sc_deck.specs.Events.{Event, after_events};
+ghost use Rattle.sc_deck.specs.CallChains.{Calls, IsCallChain};
+ghost use Rattle.sc_deck.specs.Decks.{CallsFit, IsDeck, IsWhole};
+ghost use Rattle.sc_deck.specs.Events.{Event, gates_in, after_events, fresh_in, rename_event};
 ghost use Rattle.sc_deck.specs.Examples.{g_twice, g_repeated, eight_gates};
 ghost use Rattle.sc_deck.specs.Hierarchical.{hier, AreProper, IsHier, IsSound, IsWithinLimits};
-ghost use Rattle.sc_deck.specs.Modules.{Module, height_over, heights_of, reach_over, reaches_of};
-ghost use Rattle.sc_deck.specs.Numbers.{Numbers};
-ghost use Rattle.sc_deck.specs.Renaming.{CanRename};
+ghost use Rattle.sc_deck.specs.Items.{ItemInRange};
+ghost use Rattle.sc_deck.specs.Keys.{param_classes};
+ghost use Rattle.sc_deck.specs.Modules.{Module, is_called, height_over, heights_of, reach_over, reaches_of};
+ghost use Rattle.sc_deck.specs.Placing.{put, copies, Sized, GatesOn, IsPassedOrFresh};
+ghost use Rattle.sc_deck.specs.Renaming.{wire, CanRename};
 ghost use Rattle.sc_deck.specs.Turns.{written_out, with_folded, folded, folded_modules};
-ghost use Rattle.sc_deck.specs.Unfolding.{Unfolding, unfold_items, unfold_module, unfoldings, unfold_on, expansion, gates_of, places_after};
+ghost use Rattle.sc_deck.specs.Unfolding.{Unfolding, unfold_items, unfold_module, unfoldings, unfold_on, expansion, gates_of, numbered, places_after, repeated};
 
 /// The events of items in sequence are those of the first part and then those of the second, from where the first ends.
 pub fn items_in_sequence()
@@ -78,4 +85,90 @@ pub fn sound_decks_have_texts()
 pub fn fronts_are_proper()
     ensures deck { (modules more : List Module) → IsDeck (modules ++ more) → IsDeck modules }
     ensures text { (modules more : List Module) → AreProper (modules ++ more) → AreProper modules }
+{}
+
+/// An unfolding is the expansion of its module with the wires put in their places. So the fresh sums of an unfolding and the
+/// kinds of its gates depend neither on the wires that are passed nor on the next numbers.
+pub fn unfoldings_are_placed_expansions()
+    ensures events { (modules : List Module) → IsDeck modules → (i : ℕ) (m : Module) → slice_get modules i ≡ Some m →
+        (wires : List Wire) (next : Numbers) → map class_of wires ≡ param_classes m.key →
+        unfold_on modules i wires next ≡ map (rename_event (put wires next)) (expansion modules i) }
+    ensures sums { (modules : List Module) → IsDeck modules → (i : ℕ) (m : Module) → slice_get modules i ≡ Some m →
+        (wires : List Wire) (next : Numbers) → map class_of wires ≡ param_classes m.key →
+        fresh_in (unfold_on modules i wires next) ≡ fresh_in (expansion modules i) }
+    ensures gates { (modules : List Module) → IsDeck modules → (i : ℕ) (m : Module) → slice_get modules i ≡ Some m →
+        (wires : List Wire) (next : Numbers) → map class_of wires ≡ param_classes m.key →
+        gates_in (unfold_on modules i wires next) ≡ map (rename_gate (put wires next)) (gates_of modules i) }
+{}
+
+/// An unfolding that is repeated is so many copies of its events, and makes so many times its fresh wires.
+pub fn repeats_are_copies()
+    ensures events { (once : Numbers → List Event) (wires : List Wire) (events : List Event) →
+        ((next : Numbers) → once next ≡ map (rename_event (put wires next)) events) →
+        (n : ℕ) (next : Numbers) → repeated n once next ≡ copies n wires events next }
+    ensures sums { (once : Numbers → List Event) (class : Class) (each : ℕ) →
+        ((next : Numbers) → number_of class (fresh_in (once next)) ≡ each) →
+        (n : ℕ) (next : Numbers) → number_of class (fresh_in (repeated n once next)) ≡ n * each }
+{}
+
+/// Each wire of an unfolding's gates is one that was passed or a fresh one of that unfolding. The wires of the last
+/// expansion of a whole deck are below the sums of its flat text.
+pub fn wires_are_passed_or_fresh()
+    ensures passed { (modules : List Module) → IsDeck modules → (i : ℕ) (m : Module) → slice_get modules i ≡ Some m →
+        (wires : List Wire) (next : Numbers) → map class_of wires ≡ param_classes m.key →
+        GatesOn (IsPassedOrFresh wires next (after_events next (unfold_on modules i wires next))) (gates_in (unfold_on modules i wires next)) }
+    ensures whole { (modules : List Module) → IsDeck modules → IsWhole modules →
+        GatesOn (IsThere (fresh_in (expansion modules (length modules - 1)))) (gates_of modules (length modules - 1)) }
+{}
+
+/// The canonical placing keeps classes, puts parameters on the wires that are passed and fresh wires on those from the next
+/// numbers on, and puts two wires on one only where a wire was passed twice or is not below the next numbers.
+pub fn placings_are_one_to_one()
+    ensures classes { (wires : List Wire) (next : Numbers) → KeepsClasses (put wires next) }
+    ensures params { (wires : List Wire) (next : Numbers) → map (put wires next) (numbered (map class_of wires) no_wires) ≡ wires }
+    ensures fresh { (wires : List Wire) (numbers next : Numbers) → Sized wires numbers → (class : Class) (k : ℕ) →
+        put wires next (wire class (number_of class numbers + k)) ≡ wire class (number_of class next + k) }
+    ensures apart { (wires : List Wire) (next : Numbers) → AreDistinct wires → AreThere next wires → IsOneToOne (put wires next) }
+{}
+
+/// All gates of an unfolding on distinct wires below the next numbers are well formed, and so are those of a whole deck.
+pub fn gates_are_well_formed()
+    ensures passed { (modules : List Module) → IsDeck modules → (i : ℕ) (m : Module) → slice_get modules i ≡ Some m →
+        (wires : List Wire) (next : Numbers) → map class_of wires ≡ param_classes m.key → AreDistinct wires → AreThere next wires →
+        AreWellFormed (gates_in (unfold_on modules i wires next)) }
+    ensures whole { (modules : List Module) → IsDeck modules → IsWhole modules → AreWellFormed (gates_of modules (length modules - 1)) }
+{}
+
+/// No reach passes 65,536 wires for each step of the height, so in a deck of heights up to 256 none passes 16,777,216.
+pub fn reaches_are_bounded()
+    ensures heights { (modules : List Module) → IsDeck modules → (i : ℕ) →
+        slice_index (reaches_of modules) i ≤ 65536 * slice_index (heights_of modules) i }
+    ensures shallow { (modules : List Module) → IsDeck modules → All (λ height. height ≤ 256) (heights_of modules) → (i : ℕ) →
+        slice_index (reaches_of modules) i ≤ 16777216 }
+{}
+
+/// Calls of a deck: they fit in each longer one, those of module i are of modules before it, and a module is called exactly
+/// where a later one calls it. A key has one number.
+pub fn calls_are_of_earlier_modules()
+    ensures longer { (modules more : List Module) (items : List Item) → CallsFit modules items → CallsFit (modules ++ more) items }
+    ensures earlier { (modules : List Module) → IsDeck modules → (i : ℕ) (m : Module) → slice_get modules i ≡ Some m →
+        CallsFit (take i modules) m.items }
+    ensures called { (modules : List Module) (i : ℕ) → IsTrue (is_called modules i) ↔ ((j : ℕ) × (i < j) × Calls modules j i) }
+    ensures key { (modules : List Module) → IsDeck modules → (i j : ℕ) (m n : Module) →
+        slice_get modules i ≡ Some m → slice_get modules j ≡ Some n → m.key ≡ n.key → i ≡ j }
+{}
+
+/// A chain of calls grows at its end, and is no longer than the deck.
+pub fn call_chains_grow()
+    ensures more { (modules : List Module) (front : List ℕ) (i j : ℕ) → IsCallChain modules (front ++ i ∷ []) →
+        Calls modules i j → j < length modules → IsCallChain modules (front ++ (i ∷ j ∷ [])) }
+    ensures short { (modules : List Module) → IsDeck modules → (chain : List ℕ) → IsCallChain modules chain → length chain ≤ length modules }
+{}
+
+/// Folding keeps heights, who is called, wholeness, and what every deck keeps where the numbers of turns stay in range.
+pub fn folding_keeps_decks()
+    ensures heights { (modules : List Module) → heights_of (folded_modules modules) ≡ heights_of modules }
+    ensures called { (modules : List Module) (i : ℕ) → is_called (folded_modules modules) i ≡ is_called modules i }
+    ensures whole { (modules : List Module) → IsWhole modules → IsWhole (folded_modules modules) }
+    ensures deck { (modules : List Module) → IsDeck modules → All (λ m. All ItemInRange (folded m.items)) modules → IsDeck (folded_modules modules) }
 {}

@@ -1,7 +1,7 @@
 //! What the types of numbers say of their ranges.
 ghost use Rattle.std.specs.Prelude.{All, FitsSigned};
 ghost use Rattle.std.specs.Int.{w64};
-ghost use Rattle.sc_deck.specs.Items.{value_of};
+ghost use Rattle.sc_gate.specs.SameGates.{value_of};
 ghost use Rattle.sc_deck.specs.Keys.{ArgInRange};
 
 use crate::Arg;

@@ -1,5 +1,2 @@
 //! Tests of decks and what stands on them, schedules and their checker.
 #![tactic(auto)]
-
-#[cfg(test)]
-mod deck;
