@@ -1,33 +1,33 @@
-use super::{SchedFault, schedule};
-use crate::{Lpfs, Plan, Priority, Rcp};
-use sc_base::{Class, GateName};
-use sc_gate::{Gate, Kind, Times, Wire};
+//! Orders of ranks, and schedules whose steps a plain program of the definition gave.
+use crate::gates::{cnot, qubit, single};
+use sc_base::GateName;
+use sc_gate::{Gate, Kind, Times};
+use sc_sched::{Lpfs, Plan, Priority, Rank, Rcp, SchedFault, schedule};
 use std::alloc::{AllocError, Global};
 use std::fmt::Write;
 use std::test::Fail;
 
-fn qubit(number: u32) -> Wire {
-    Wire {
-        class: Class::Q,
-        number,
+fn rank((height, through, position): (u64, u64, u32)) -> Rank {
+    Rank {
+        height,
+        through,
+        position,
     }
 }
 
-fn single(kind: Kind, number: u32) -> Gate {
-    Gate {
-        kind,
-        a: qubit(number),
-        b: None,
-        c: None,
-    }
-}
-
-fn cnot(control: u32, target: u32) -> Gate {
-    Gate {
-        kind: Kind::Cnot,
-        a: qubit(control),
-        b: Some(qubit(target)),
-        c: None,
+/// Of two ranks, whether the first is before the second by each order.
+#[test]
+fn orders_of_ranks(rt: HostRuntime) {
+    for (first, second, by_height, by_through) in [
+        ((3, 3, 1), (1, 1, 0), true, true),
+        ((1, 1, 0), (1, 3, 3), true, false),
+        ((1, 3, 3), (1, 1, 0), false, true),
+        ((3, 3, 1), (1, 3, 3), true, true),
+        ((3, 3, 1), (3, 3, 1), false, false),
+        ((2, 5, 4), (2, 5, 3), false, false),
+    ] {
+        assert_eq!(rt; Rcp.before(&rank(first), &rank(second)), by_height);
+        assert_eq!(rt; Lpfs.before(&rank(first), &rank(second)), by_through);
     }
 }
 

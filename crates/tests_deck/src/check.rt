@@ -1,25 +1,11 @@
-use crate::{Finding, SchedReadFault, read_schedule, verdict};
-use sc_base::{Class, MemSink};
-use sc_gate::{Gate, Kind, Wire};
+//! Breaches of schedules, and schedule texts that are read and written.
+use crate::gates::{cnot, single};
+use sc_base::MemSink;
+use sc_check::{Finding, SchedReadFault, read_schedule, verdict};
+use sc_gate::{Gate, Kind};
 use sc_sched::write_schedule;
 use std::alloc::Global;
 use std::test::Fail;
-
-fn qubit(number: u32) -> Wire {
-    Wire {
-        class: Class::Q,
-        number,
-    }
-}
-
-fn single(kind: Kind, number: u32) -> Gate {
-    Gate {
-        kind,
-        a: qubit(number),
-        b: None,
-        c: None,
-    }
-}
 
 fn found(alloc: Global, gates: &[Gate], text: &[u8]) -> Result<Finding, Fail> {
     if gates.len() > 100 || text.len() > 1000 {
@@ -31,15 +17,7 @@ fn found(alloc: Global, gates: &[Gate], text: &[u8]) -> Result<Finding, Fail> {
 
 #[test]
 fn breaches_of_a_pair(rt: HostRuntime) -> Result<(), Fail> {
-    let pair = [
-        single(Kind::H, 0),
-        Gate {
-            kind: Kind::Cnot,
-            a: qubit(0),
-            b: Some(qubit(1)),
-            c: None,
-        },
-    ];
+    let pair = [single(Kind::H, 0), cnot(0, 1)];
     for (text, finding) in [
         (
             b"sched 1\nregions 1\nwidth 2\ngates 2\nsteps 2\nstep\nregion 0\nstep\nregion 0 1\nend\n".as_slice(),
