@@ -13,7 +13,7 @@ use Rattle.sc_gate.specs.declared.gate.Kind.TheVariants as kind
 use Rattle.sc_gate.specs.declared.gate.Gate.{Gate}
 use Rattle.sc_gate.specs.BitRuns.{target_by, target, NoneChanges, UseOnly, KeepsApart, Matches}
 use Rattle.sc_gate.specs.Gates.{name_of, class_of, operands, SuitsName, IsWellFormed, AreWellFormed}
-use Rattle.sc_gate.specs.Renaming.{rename_gate, KeepsClasses, IsOneToOneOn}
+use Rattle.sc_gate.specs.Renaming.{rename_gate, KeepsClassesOn, IsOneToOneOn}
 use Rattle.sc_gate.specs.Runs.{xor, bit_at, xor_at, bit_step_by, bit_step, bit_run, number_or_zero}
 use Rattle.sc_gate.specs.Wires.{member}
 use Rattle.sc_gate.proofs.RenameLemmas.{rename_gate-same}
@@ -122,9 +122,9 @@ bit_run_agrees wires gates bits others formed inside m =
     (bit_run_matches (λ w. w) wires (λ v w mv mw. (λ e. e, λ e. e)) gates bits others formed inside m)
 
 -- a one-to-one renaming of qubits keeps them apart
-pub keeps_apart : (f : Wire → Wire) (wires : List Wire) → KeepsClasses f → IsOneToOneOn wires f → ((w : Wire) → member w wires ≡ true → class_of w ≡ Q) → KeepsApart f wires
+pub keeps_apart : (f : Wire → Wire) (wires : List Wire) → KeepsClassesOn wires f → IsOneToOneOn wires f → ((w : Wire) → member w wires ≡ true → class_of w ≡ Q) → KeepsApart f wires
 keeps_apart f wires keeps one qubits v w mv mw =
     let c : class_of v ≡ class_of w = qubits v mv ∙ sym (qubits w mw) in (
-      λ e. ap (λ (x : Wire). x.number) (one v w mv mw (same_parts (f v) (f w) (keeps v ∙ c ∙ sym (keeps w)) e)),
+      λ e. ap (λ (x : Wire). x.number) (one v w mv mw (same_parts (f v) (f w) (keeps v mv ∙ c ∙ sym (keeps w mw)) e)),
       λ e. ap (λ (x : Wire). (f x).number) (same_parts v w c e),
     )

@@ -18,6 +18,10 @@ rename_timed f g = record { weight = g.weight; wires = map f g.wires }
 abbrev pub KeepsClasses : (Wire → Wire) → Type 0
 KeepsClasses f = (w : Wire) → class_of (f w) ≡ class_of w
 
+-- each of these wires keeps its class
+abbrev pub KeepsClassesOn : List Wire → (Wire → Wire) → Type 0
+KeepsClassesOn ws f = (w : Wire) → member w ws ≡ true → class_of (f w) ≡ class_of w
+
 -- two of these wires with one new name are one wire
 abbrev pub IsOneToOneOn : List Wire → (Wire → Wire) → Type 0
 IsOneToOneOn ws f = (v w : Wire) → member v ws ≡ true → member w ws ≡ true → f v ≡ f w → v ≡ w

@@ -1,2 +1,5 @@
 //! Tests of the lists, sinks, gates, tables and tokens below everything.
 #![tactic(auto)]
+
+#[cfg(test)]
+mod gate;
