@@ -1,18 +1,16 @@
 -- Bit runs keep the length and the wires that no gate changes, and agree where the bits do, also under other names.
-use Rattle.std.proofs.Common.{◌≡◌, ◌≢◌, ◌↔◌, ℕ, zero, suc, ◌<◌, Bool, true, false, ◌&&◌, nat_eq, ◌⊎◌, inl, inr, Option, Some, None, List, [], ◌∷◌, ◌++◌, map, length, refl, sym, ap, ◌∙◌, subst, arith, eqb-true, eq-eqb, true≢false}
+use Rattle.std.proofs.Common.{◌≡◌, ◌≢◌, ℕ, ◌<◌, Bool, true, false, ◌&&◌, nat_eq, ◌⊎◌, inl, inr, Option, Some, None, List, [], ◌∷◌, ◌++◌, map, length, refl, sym, ap, ◌∙◌, subst, eqb-true, eq-eqb, true≢false}
 use Rattle.std.specs.Prelude.{option_to_list, IsSome}
-use Rattle.std.specs.List.{AllByRecursion}
 use Rattle.std.specs.Option.{option_map}
 use Rattle.std.proofs.lemmas.Bool.{cases_Bool}
-use Rattle.sc_base.specs.declared.names.Class.{Class}
 use Rattle.sc_base.specs.declared.names.Class.TheVariants.{Q}
 use Rattle.sc_base.specs.declared.names.GateName.TheVariants as name
 use Rattle.sc_gate.specs.declared.gate.Wire.{Wire}
 use Rattle.sc_gate.specs.declared.gate.Kind.{Kind}
 use Rattle.sc_gate.specs.declared.gate.Kind.TheVariants as kind
 use Rattle.sc_gate.specs.declared.gate.Gate.{Gate}
-use Rattle.sc_gate.specs.BitRuns.{target_by, target, NoneChanges, UseOnly, KeepsApart, Matches}
-use Rattle.sc_gate.specs.Gates.{name_of, class_of, operands, SuitsName, IsWellFormed, AreWellFormed}
+use Rattle.sc_gate.specs.BitRuns.{target_by, NoneChanges, UseOnly, KeepsApart, Matches}
+use Rattle.sc_gate.specs.Gates.{name_of, class_of, operands, SuitsName, AreWellFormed}
 use Rattle.sc_gate.specs.Renaming.{rename_gate, KeepsClassesOn, IsOneToOneOn}
 use Rattle.sc_gate.specs.Runs.{xor, bit_at, xor_at, bit_step_by, bit_step, bit_run, number_or_zero}
 use Rattle.sc_gate.specs.Wires.{member}

@@ -1,13 +1,12 @@
 -- What renaming keeps of gates.
-use Rattle.std.proofs.Common.{◌≡◌, ℕ, Bool, true, List, [], ◌∷◌, ◌++◌, map, Option, Some, None, refl, sym, ap, ◌∙◌, subst, true≢false}
+use Rattle.std.proofs.Common.{◌≡◌, ℕ, true, List, [], ◌∷◌, ◌++◌, map, Option, Some, None, refl, sym, ap, ◌∙◌, subst, true≢false}
 use Rattle.std.specs.Prelude.{option_to_list, IsSome}
 use Rattle.std.specs.Option.{option_map}
 use Rattle.std.proofs.lemmas.List.{map-append}
-use Rattle.sc_base.specs.declared.names.Class.{Class}
 use Rattle.sc_gate.specs.declared.gate.Wire.{Wire}
 use Rattle.sc_gate.specs.declared.gate.Gate.{Gate}
-use Rattle.sc_gate.specs.Chains.{Timed, timed}
-use Rattle.sc_gate.specs.Gates.{name_of, class_of, operands, SuitsName, IsNew, AreDistinct, IsWellFormed, AreWellFormed}
+use Rattle.sc_gate.specs.Chains.{timed}
+use Rattle.sc_gate.specs.Gates.{name_of, class_of, operands, SuitsName, IsNew, AreDistinct, IsWellFormed}
 use Rattle.sc_gate.specs.Renaming.{rename_gate, rename_timed, KeepsClasses, KeepsClassesOn, IsOneToOneOn}
 use Rattle.sc_gate.specs.Wires.{member}
 use Rattle.sc_gate.proofs.WireLemmas.{member_here, member_later}

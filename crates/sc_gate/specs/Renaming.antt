@@ -1,10 +1,10 @@
 -- Gates with their wires renamed.
-use Rattle.std.specs.Prelude.{◌≡◌, Bool, true, List, map}
+use Rattle.std.specs.Prelude.{◌≡◌, true, List, map}
 use Rattle.std.specs.Option.{option_map}
 use Rattle.sc_gate.specs.declared.gate.Wire.{Wire}
 use Rattle.sc_gate.specs.declared.gate.Gate.{Gate}
 use Rattle.sc_gate.specs.Chains.{Timed}
-use Rattle.sc_gate.specs.Gates.{class_of, operands}
+use Rattle.sc_gate.specs.Gates.{class_of}
 use Rattle.sc_gate.specs.Wires.{member}
 
 -- a gate with its wires renamed
