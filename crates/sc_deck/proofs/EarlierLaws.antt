@@ -9,9 +9,8 @@ use Rattle.sc_deck.specs.Bodies.{wires_of}
 use Rattle.sc_deck.specs.Decks.{CallsFit, CallEarlier, IsDeck}
 use Rattle.sc_deck.specs.Events.{Event, Enter, Return, after_events}
 use Rattle.sc_deck.specs.Items.{callees_of}
-use Rattle.sc_deck.specs.Modules.{Module, body_of, from_earlier, greatest, height_over, heights_of, reach_over, reaches_of}
+use Rattle.sc_deck.specs.Modules.{Module, ReadsCallees, body_of, from_earlier, greatest, height_over, heights_of, reach_over, reaches_of}
 use Rattle.sc_gate.specs.Numbers.{Numbers, both}
-use Rattle.sc_deck.specs.Placing.{ReadsCallees}
 use Rattle.sc_deck.specs.Unfolding.{Unfolding, unfolding_at, unfold_item, unfold_items, unfold_module, unfoldings, unfold_on, places_with, placed, repeated}
 use Rattle.sc_deck.proofs.DeckLemmas.{callee_there}
 use Rattle.sc_deck.proofs.SequenceLaws.{unfolding_at-before}

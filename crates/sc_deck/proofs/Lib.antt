@@ -11,7 +11,10 @@ pub mod FoldLaws
 pub mod FormedLaws
 pub mod GateTests
 pub mod HeightLaws
+pub mod JoinLemmas
 pub mod ListLemmas
+pub mod NeighbourLaws
+pub mod OneTextLaws
 pub mod PlaceLaws
 pub mod PushLemmas
 pub mod PutLaws

@@ -9,6 +9,7 @@ use Rattle.sc_base.specs.declared.names.Class.TheVariants.{Q, C}
 use Rattle.sc_gate.specs.declared.gate.Wire.{Wire}
 use Rattle.sc_gate.specs.Gates.{class_of}
 use Rattle.sc_gate.specs.Wires.{same_class}
+use Rattle.sc_gate.proofs.WireLemmas.{same_class-true}
 use Rattle.sc_deck.specs.declared.key.Arg.{Arg}
 use Rattle.sc_deck.specs.declared.key.Arg.TheVariants.{Int, Double, One, Many}
 use Rattle.sc_deck.specs.declared.key.Key.{Key}
@@ -20,12 +21,6 @@ use Rattle.sc_gate.specs.Numbers.{Numbers, number_of, with_more, no_wires, AreTh
 use Rattle.sc_deck.specs.Placing.{Sized}
 use Rattle.sc_deck.specs.Renaming.{wire}
 use Rattle.sc_deck.specs.Unfolding.{wires_from, of_class, placed, places_with}
-
-pub same_class-true : (c d : Class) → same_class c d ≡ true → d ≡ c
-same_class-true Q Q h = refl
-same_class-true C C h = refl
-same_class-true Q C h = absurd (true≢false (sym h))
-same_class-true C Q h = absurd (true≢false (sym h))
 
 -- a renaming that keeps classes renames the wires of each class
 pub of_class-map : (f : Wire → Wire) → ((w : Wire) → class_of (f w) ≡ class_of w) → (class : Class) (wires : List Wire) → of_class class (map f wires) ≡ map f (of_class class wires)
@@ -41,7 +36,7 @@ of_class-map f keeps class (w ∷ wires) =
 
 -- the wire that a local wire stands for has its class
 pub placed-class : (places : List Wire) (w : Wire) → w.number < length (of_class w.class places) → class_of (placed places w) ≡ w.class
-placed-class places w below = same_class-true w.class _ (filter_passes (λ (v : Wire). same_class w.class v.class) places w.number w below)
+placed-class places w below = sym (same_class-true w.class _ (filter_passes (λ (v : Wire). same_class w.class v.class) places w.number w below))
 
 pub placed-map : (f : Wire → Wire) → ((w : Wire) → class_of (f w) ≡ class_of w) → (places : List Wire) (w : Wire) → w.number < length (of_class w.class places) → placed (map f places) w ≡ f (placed places w)
 placed-map f keeps places w below =

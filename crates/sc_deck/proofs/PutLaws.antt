@@ -16,6 +16,7 @@ use Rattle.sc_gate.specs.Gates.{class_of}
 use Rattle.sc_gate.specs.Numbers.{Numbers, number_of, with_more, no_wires}
 use Rattle.sc_gate.specs.Renaming.{rename_gate}
 use Rattle.sc_gate.specs.Wires.{same_class}
+use Rattle.sc_gate.proofs.WireLemmas.{same_class-true, same_class-refl}
 use Rattle.sc_deck.specs.Decks.{IsDeck}
 use Rattle.sc_deck.specs.Events.{Event, gates_in, after_events, fresh_in, rename_event}
 use Rattle.sc_deck.specs.Keys.{param_classes, params_of}
@@ -23,20 +24,16 @@ use Rattle.sc_deck.specs.Modules.{Module}
 use Rattle.sc_deck.specs.Placing.{shifted, put, copies, Sized}
 use Rattle.sc_deck.specs.Renaming.{wire, Renames}
 use Rattle.sc_deck.specs.Unfolding.{of_class, repeated, unfold_on, numbered, expansion, gates_of}
-use Rattle.sc_deck.proofs.PlaceLaws.{same_class-true, length_more, Sized-params}
+use Rattle.sc_deck.proofs.PlaceLaws.{length_more, Sized-params}
 use Rattle.sc_deck.proofs.RenameLaws.{gates_in-rename, after_events-rename, unfold_on-rename}
 use Rattle.sc_deck.proofs.SequenceLaws.{after_events-append, after_events-adds}
-
-same_class-refl : (c : Class) → same_class c c ≡ true
-same_class-refl Q = refl
-same_class-refl C = refl
 
 -- a wire is put on one of its class
 pub put-class : (wires : List Wire) (next : Numbers) (w : Wire) → class_of (put wires next w) ≡ class_of w
 put-class wires next w = by (cases_lt w.number (length (of_class w.class wires)))
   where
     by : (w.number < length (of_class w.class wires)) ⊎ (length (of_class w.class wires) ≤ w.number) → class_of (put wires next w) ≡ w.class
-    by (inl below) = same_class-true w.class _ (filter_passes (λ (v : Wire). same_class w.class v.class) wires w.number _ below)
+    by (inl below) = sym (same_class-true w.class _ (filter_passes (λ (v : Wire). same_class w.class v.class) wires w.number _ below))
     by (inr past) = ap class_of (get_or_past (of_class w.class wires) w.number (shifted (length (of_class w.class wires)) (number_of w.class next) w) past)
 
 -- a wire past the parameters is a fresh one

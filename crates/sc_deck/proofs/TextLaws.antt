@@ -3,10 +3,11 @@ use Rattle.std.proofs.Common.{◌≡◌, ◌≢◌, ℕ, ◌+◌, ◌<◌, Bool,
 use Rattle.std.specs.Prelude.{if◌then◌else◌}
 use Rattle.std.proofs.Math.ListN.{get_or-append}
 use Rattle.std.proofs.lemmas.List.{map-append, length-map}
+use Rattle.sc_base.specs.NameTexts.{IsNameText}
 use Rattle.sc_deck.specs.declared.key.Key.{Key}
 use Rattle.sc_deck.specs.Bodies.{ItemsFit, IsBody}
 use Rattle.sc_deck.specs.Decks.{CallEarlier, IsDeck}
-use Rattle.sc_deck.specs.Hierarchical.{hier, hier_text, have_turns, AreProper, IsProper, IsWithinLimits, IsHier, IsSound, IsModuleName}
+use Rattle.sc_deck.specs.Hierarchical.{hier, hier_text, have_turns, AreProper, IsProper, IsWithinLimits, IsHier, IsSound}
 use Rattle.sc_deck.specs.Items.{ItemInRange}
 use Rattle.sc_deck.specs.Keys.{HasLengths, ArgInRange, params_of}
 use Rattle.sc_deck.specs.Modules.{Module, key_of, body_of}
@@ -38,7 +39,7 @@ IsDeck-front modules more deck = record {
 -- FRONTS of proper module lists are proper
 pub AreProper-front : (modules more : List Module) → AreProper (modules ++ more) → AreProper modules
 AreProper-front modules more proper = record {
-  names = All-front (λ m. IsModuleName m.key.name) modules more proper.names;
+  names = All-front (λ m. IsNameText m.key.name) modules more proper.names;
   args = All-front (λ m. All ArgInRange m.key.args) modules more proper.args;
   in_range = All-front (λ m. All ItemInRange m.items) modules more proper.in_range;
   lengths = All-front (λ m. HasLengths m.key) modules more proper.lengths;

@@ -1,12 +1,11 @@
 -- Hierarchical texts of keys with items.
 use Rattle.std.specs.Prelude.{◌≡◌, ℕ, ◌+◌, ◌≤◌, ◌⊎◌, ℤ, Bool, true, false, ◌||◌, ◌==◌, List, [], ◌∷◌, ◌++◌, map, flat_map, length, codes, decimal, unsigned_abs, if◌then◌else◌, All, AllPairs, ◌≢◌}
-use Rattle.std.specs.List.{list_any, join_with_byte, AllPass}
-use Rattle.std.specs.Char.{is_ascii_alphabetic, is_ascii_alphanumeric}
-use Rattle.std.specs.Fmt.{sign_text}
-use Rattle.std.specs.Int.{is_negative}
+use Rattle.std.specs.List.{list_any, join_with_byte}
+use Rattle.std.specs.Fmt.{signed_decimal}
 use Rattle.sc_base.specs.declared.names.Class.{Class}
 use Rattle.sc_base.specs.declared.names.Class.TheVariants.{Q, C}
 use Rattle.sc_base.specs.Decimals.{fixed_text}
+use Rattle.sc_base.specs.NameTexts.{IsNameText}
 use Rattle.sc_gate.specs.declared.gate.Wire.{Wire}
 use Rattle.sc_gate.specs.Lines.{class_letter, wire_text, gate_line, number_line}
 use Rattle.sc_deck.specs.declared.item.Item.{Item}
@@ -22,13 +21,9 @@ use Rattle.sc_deck.specs.Modules.{Module, key_of, body_of, heights_of}
 use Rattle.sc_gate.specs.Numbers.{both}
 use Rattle.sc_deck.specs.Turns.{has_turns}
 
--- a number with its sign
-abbrev pub int_text : ℤ → List ℕ
-int_text n = sign_text (is_negative n) ++ decimal (unsigned_abs n)
-
 -- an argument: a number, or the letter of a class, with a length in brackets for an array
 abbrev pub arg_text : Arg → List ℕ
-arg_text (Int n) = int_text n
+arg_text (Int n) = signed_decimal n
 arg_text (Double x) = fixed_text x.0
 arg_text (One class) = class_letter class ∷ []
 arg_text (Many class n) = class_letter class ∷ (codes "[" ++ decimal n ++ codes "]")
@@ -81,14 +76,9 @@ have_turns modules = list_any (λ (m : Module). list_any has_turns m.items) modu
 abbrev pub hier : List Module → List ℕ
 hier modules = hier_text (if have_turns modules then 2 else 1) modules
 
--- a letter or `_`, and then letters, digits and `_`
-abbrev pub IsModuleName : List ℕ → Type 0
-IsModuleName [] = ⊥
-IsModuleName (c ∷ cs) = ((is_ascii_alphabetic c || c == 95) ≡ true) × AllPass (λ d. is_ascii_alphanumeric d || d == 95) cs
-
 -- the rules that hold of the modules of every hierarchical text, and of each front of them
 pub record AreProper (modules : List Module) : Type 0 where
-  pub names : All (λ m. IsModuleName m.key.name) modules
+  pub names : All (λ m. IsNameText m.key.name) modules
   pub args : All (λ m. All ArgInRange m.key.args) modules
   pub in_range : All (λ m. All ItemInRange m.items) modules
   -- array lengths of at least 1
@@ -120,6 +110,6 @@ pub record IsHier (text : List ℕ) (modules : List Module) : Type 0 where
 -- a deck that a hierarchical text may hold: whole, with module names, and within the limits on heights and items
 pub record IsSound (modules : List Module) : Type 0 where
   pub whole : IsWhole modules
-  pub names : All (λ m. IsModuleName m.key.name) modules
+  pub names : All (λ m. IsNameText m.key.name) modules
   pub shallow : All (λ height. height ≤ 256) (heights_of modules)
   pub short : All (λ m. length m.items ≤ 1048576) modules

@@ -6,8 +6,6 @@ use Rattle.sc_gate.specs.declared.gate.Wire.{Wire}
 use Rattle.sc_gate.specs.declared.gate.Gate.{Gate}
 use Rattle.sc_gate.specs.Gates.{operands}
 use Rattle.sc_deck.specs.Events.{Event, after_events, rename_event}
-use Rattle.sc_deck.specs.Items.{callees_of}
-use Rattle.sc_deck.specs.Modules.{Module}
 use Rattle.sc_gate.specs.Numbers.{Numbers, number_of}
 use Rattle.sc_deck.specs.Unfolding.{of_class}
 
@@ -28,10 +26,6 @@ copies (suc n) wires events next = map (rename_event (put wires next)) events ++
 -- so many wires of each class
 pub record Sized (places : List Wire) (numbers : Numbers) : Type 0 where
   pub count : (class : Class) → length (of_class class places) ≡ number_of class numbers
-
--- f reads the values of callees alone: values that come later change nothing
-abbrev pub ReadsCallees : (A : Type 0) → (List A → Module → A) → Type 0
-ReadsCallees A f = (done more : List A) (m : Module) → AllByRecursion (λ j. j < length done) (callees_of m.items) → f (done ++ more) m ≡ f done m
 
 -- P holds of each operand of each gate
 abbrev pub GatesOn : (Wire → Type 0) → List Gate → Type 0

@@ -1,5 +1,6 @@
 -- Items with turns, written out and folded.
-use Rattle.std.specs.Prelude.{◌≡◌, ℕ, ◌+◌, nat_eq, Bool, true, false, ◌&&◌, List, [], ◌∷◌, map, fold, replicate, if◌then◌else◌}
+use Rattle.std.specs.Prelude.{◌≡◌, ℕ, ◌+◌, ◌-◌, nat_eq, Bool, true, false, ◌&&◌, List, [], ◌∷◌, map, fold, length, slice_get, replicate, if◌then◌else◌}
+use Rattle.std.specs.Option.{option_map_or}
 use Rattle.std.specs.Cmp.Lexicographic.{pointwise}
 use Rattle.sc_gate.specs.declared.gate.Wire.{Wire}
 use Rattle.sc_gate.specs.declared.gate.Gate.{Gate}
@@ -24,6 +25,18 @@ has_turns (item.Gate gate) = false
 has_turns (item.Call callee wires) = false
 has_turns (item.Gates gate turns) = true
 has_turns (item.Calls callee wires turns) = true
+
+-- how many turns an item has
+abbrev pub turns_of : Item → ℕ
+turns_of (item.Fresh class n) = 1
+turns_of (item.Gate gate) = 1
+turns_of (item.Call callee wires) = 1
+turns_of (item.Gates gate turns) = turns
+turns_of (item.Calls callee wires turns) = turns
+
+-- the turns of the last item, and 0 where there is none
+abbrev pub last_turns : List Item → ℕ
+last_turns items = option_map_or turns_of (slice_get items (length items - 1)) 0
 
 -- a call of the same body on the same wires
 abbrev pub same_call : ℕ → List Wire → ℕ → List Wire → Bool

@@ -1,23 +1,26 @@
 //! What is true of the unfoldings of all module lists.
-ghost use Rattle.std.specs.Prelude.{◌≡◌, ◌<◌, ◌≤◌, ◌↔◌, ◌+◌, ◌-◌, ◌*◌, [], ◌∷◌, ◌++◌, ℕ, List, Some, codes, map, flat_map, length, take, slice_get, slice_index, IsTrue, All};
+ghost use Rattle.std.specs.Prelude.{◌≡◌, ◌<◌, ◌≤◌, ◌↔◌, ◌+◌, ◌-◌, ◌*◌, ◌^◌, [], ◌∷◌, ◌++◌, ℕ, List, Some, codes, map, flat_map, length, take, slice_get, slice_index, IsTrue, All, false};
+ghost use Rattle.std.specs.List.{list_any};
 ghost use Rattle.sc_base.specs.declared.names.Class.{Class};
 ghost use Rattle.sc_gate.specs.declared.gate.Wire.{Wire};
 ghost use Rattle.sc_gate.specs.Gates.{class_of, AreDistinct, AreWellFormed};
 ghost use Rattle.sc_gate.specs.Numbers.{Numbers, number_of, no_wires, IsThere, AreThere};
 ghost use Rattle.sc_gate.specs.Renaming.{rename_gate, KeepsClasses, IsOneToOne};
+ghost use Rattle.sc_gate.specs.Wires.{same_class};
 ghost use Rattle.sc_deck.specs.declared.item.Item.{Item};
+ghost use Rattle.sc_deck.specs.declared.key.Key.{Key};
 ghost use Rattle.sc_deck.specs.CallChains.{Calls, IsCallChain};
 ghost use Rattle.sc_deck.specs.Decks.{CallsFit, IsDeck, IsWhole};
 ghost use Rattle.sc_deck.specs.Events.{Event, gates_in, after_events, fresh_in, rename_event};
 ghost use Rattle.sc_deck.specs.Examples.{g_twice, g_repeated, eight_gates};
 ghost use Rattle.sc_deck.specs.Hierarchical.{hier, AreProper, IsHier, IsSound, IsWithinLimits};
 ghost use Rattle.sc_deck.specs.Items.{ItemInRange};
-ghost use Rattle.sc_deck.specs.Keys.{param_classes};
+ghost use Rattle.sc_deck.specs.Keys.{param_classes, params_of};
 ghost use Rattle.sc_deck.specs.Modules.{Module, is_called, height_over, heights_of, reach_over, reaches_of};
 ghost use Rattle.sc_deck.specs.Placing.{put, copies, Sized, GatesOn, IsPassedOrFresh};
 ghost use Rattle.sc_deck.specs.Renaming.{wire, CanRename};
-ghost use Rattle.sc_deck.specs.Turns.{written_out, with_folded, folded, folded_modules};
-ghost use Rattle.sc_deck.specs.Unfolding.{Unfolding, unfold_items, unfold_module, unfoldings, unfold_on, expansion, gates_of, numbered, places_after, repeated};
+ghost use Rattle.sc_deck.specs.Turns.{has_turns, written_out, with_folded, folded, folded_modules, NeighboursDiffer};
+ghost use Rattle.sc_deck.specs.Unfolding.{Unfolding, unfold_items, unfold_module, unfoldings, unfold_on, expansion, gates_of, numbered, of_class, placed, wires_from, places_after, repeated};
 
 /// The events of items in sequence are those of the first part and then those of the second, from where the first ends.
 pub fn items_in_sequence()
@@ -121,6 +124,18 @@ pub fn wires_are_passed_or_fresh()
         GatesOn (IsThere (fresh_in (expansion modules (length modules - 1)))) (gates_of modules (length modules - 1)) }
 {}
 
+/// Wires that come behind leave the earlier places, and fresh ones have the local numbers from the count of their class on.
+/// Wires passed to a key are as many of each class as it has parameters.
+pub fn places_grow()
+    ensures before { (places more : List Wire) (w : Wire) → w.number < length (of_class w.class places) →
+        placed (places ++ more) w ≡ placed places w }
+    ensures fresh { (places : List Wire) (class : Class) (first n k : ℕ) → k < n →
+        placed (places ++ wires_from class first n) (wire class (length (of_class class places) + k)) ≡ wire class (first + k) }
+    ensures same { (class : Class) (first n : ℕ) → of_class class (wires_from class first n) ≡ wires_from class first n }
+    ensures other { (class other : Class) (first n : ℕ) → same_class class other ≡ false → of_class class (wires_from other first n) ≡ [] }
+    ensures params { (wires : List Wire) (key : Key) → map class_of wires ≡ param_classes key → Sized wires (params_of key) }
+{}
+
 /// The canonical placing keeps classes, puts parameters on the wires that are passed and fresh wires on those from the next
 /// numbers on, and puts two wires on one only where a wire was passed twice or is not below the next numbers.
 pub fn placings_are_one_to_one()
@@ -171,4 +186,16 @@ pub fn folding_keeps_decks()
     ensures called { (modules : List Module) (i : ℕ) → is_called (folded_modules modules) i ≡ is_called modules i }
     ensures whole { (modules : List Module) → IsWhole modules → IsWhole (folded_modules modules) }
     ensures deck { (modules : List Module) → IsDeck modules → All (λ m. All ItemInRange (folded m.items)) modules → IsDeck (folded_modules modules) }
+{}
+
+/// Where no item has turns, no folded item is followed by the same gate or the same call, and the numbers of turns are in range.
+pub fn folded_neighbours_differ()
+    ensures differ { (items : List Item) → list_any has_turns items ≡ false → NeighboursDiffer (folded items) }
+    ensures range { (items : List Item) → list_any has_turns items ≡ false → length items < 2 ^ 64 → All ItemInRange items →
+        All ItemInRange (folded items) }
+{}
+
+/// A text is the hierarchical text of one list of modules within the limits.
+pub fn one_list_for_a_text()
+    ensures { (text : List ℕ) (ms ns : List Module) → IsHier text ms → IsHier text ns → IsWithinLimits ms → IsWithinLimits ns → ms ≡ ns }
 {}

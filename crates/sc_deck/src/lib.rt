@@ -4,6 +4,7 @@
 mod body;
 mod deck;
 mod entry;
+mod fold;
 mod item;
 mod key;
 pub mod laws;
