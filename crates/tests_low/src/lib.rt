@@ -3,3 +3,5 @@
 
 #[cfg(test)]
 mod gate;
+#[cfg(test)]
+mod tables;
