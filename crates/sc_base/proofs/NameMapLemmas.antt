@@ -33,6 +33,21 @@ none_suc : (o : Option ℕ) → option_map suc o ≡ None → o ≡ None
 none_suc None e = refl
 none_suc (Some x) e = cc
 
+shadows : {X : Type 0} (b : Bool) (x y z : X) → cond b x z ≡ cond b x (cond b y z)
+shadows true x y z = refl
+shadows false x y z = refl
+
+swaps : {X : Type 0} (a b : Bool) (x y z : X) → (a ≡ true → b ≡ true → ⊥) → cond a x (cond b y z) ≡ cond b y (cond a x z)
+swaps true true x y z apart = absurd (apart refl refl)
+swaps true false x y z apart = refl
+swaps false b x y z apart = refl
+
+-- two names that differ are not both the one looked for
+not_both : (q name key : List ℕ) → same name key ≡ false → same q key ≡ true → same q name ≡ true → ⊥
+not_both q name key apart a b =
+    let one : same name key ≡ true = ap (λ (n : List ℕ). same n key) (sym (same_text q name (sym b))) ∙ a in
+    cc
+
 module _ {V : Type 0} where
   place_behind : (es : List (List ℕ × V)) (k : List ℕ) (v : V) (q : List ℕ)
       → place_under (es ++ (k, v) ∷ []) q ≡ option_or (place_under es q) (cond (same q k) (Some (length es)) None)
@@ -115,6 +130,32 @@ module _ {V : Type 0} where
         | true ↦ λ h f. cc
         | false ↦ λ h f. (h, none_suc (place_under es q) f)
       ] refl e
+
+  -- a name without a value has no place
+  pub value_under-none : (es : List (List ℕ × V)) (q : List ℕ) → value_under es q ≡ None → place_under es q ≡ None
+  value_under-none [] q e = refl
+  value_under-none (x ∷ es) q e =
+      elim (same q x.0) as (λ b. cond b (Some x.1) (value_under es q) ≡ None → cond b (Some 0) (option_map suc (place_under es q)) ≡ None) [
+        | true ↦ λ h. cc
+        | false ↦ λ h. ap (option_map suc) (value_under-none es q h)
+      ] e
+
+  -- the value stands under the name, and every other name has what it had
+  pub value_under-with : (es : List (List ℕ × V)) (k : List ℕ) (v : V) (q : List ℕ)
+      → value_under (with_value es k v) q ≡ cond (same q k) (Some v) (value_under es q)
+  value_under-with [] k v q = refl
+  value_under-with (e ∷ es) k v q =
+      let rest : Option V = value_under es q in
+      elim (same k e.0) as (λ b. same k e.0 ≡ b
+      → value_under (cond b ((e.0, v) ∷ es) (e ∷ with_value es k v)) q ≡ cond (same q k) (Some v) (cond (same q e.0) (Some e.1) rest)) [
+        | true ↦ λ one.
+            ap (λ (n : List ℕ). cond (same q n) (Some v) rest) (sym (same_text k e.0 (sym one)))
+            ∙ shadows (same q k) (Some v) (Some e.1) rest
+            ∙ ap (λ (n : List ℕ). cond (same q k) (Some v) (cond (same q n) (Some e.1) rest)) (same_text k e.0 (sym one))
+        | false ↦ λ apart.
+            ap (cond (same q e.0) (Some e.1)) (value_under-with es k v q)
+            ∙ swaps (same q e.0) (same q k) (Some e.1) (Some v) rest (not_both q k e.0 apart)
+      ] refl
 
   -- a value that is set moves no name
   pub place_under-set : (es : List (List ℕ × V)) (i : ℕ) (d : List ℕ × V) (v : V) (q : List ℕ)

@@ -1,5 +1,5 @@
 -- Texts that are read line by line: a text has one outcome.
-use Rattle.std.proofs.Common.{◌≡◌, ℕ, zero, suc, ◌+◌, ◌<◌, ◌≤◌, List, [], ◌∷◌, ◌++◌, length, refl, sym, ap, ◌∙◌, subst, arith, append_assoc, append-nil, length-append}
+use Rattle.std.proofs.Common.{◌≡◌, ◌≢◌, ℕ, zero, suc, ◌+◌, ◌<◌, ◌≤◌, List, [], ◌∷◌, ◌++◌, length, refl, sym, ap, ◌∙◌, subst, arith, append_assoc, append-nil, length-append}
 use Rattle.std.specs.Prelude.{flat_map, All}
 use Rattle.std.proofs.lemmas.List.Concat.{flat_map-append}
 use Rattle.sc_base.specs.Lines.{IsLine, joined, GoThrough, NeverBreaks, ReadTo, IsReadWhole, IsFirstBad, IsFirstBreak, LeadsOneWay}
@@ -173,3 +173,44 @@ module _ {Stage Limit : Type 0} (Goes : Stage → List ℕ → Stage → Type 0)
         p.reads.number_is ∙ (ap (λ (z : List (List ℕ)). first + length z) same.lines ∙ sym q.reads.number_is),
         one_way.one_limit q.stage q.line a b here q.breaks,
       )
+
+module _ {Stage Limit : Type 0} (Goes : Stage → List ℕ → Stage → Type 0) (Breaks : Stage → List ℕ → Limit → Type 0) (MayEnd : Stage → Type 0) where
+  -- the first bad line, where no line is left: the text ends too early, or goes on without a line feed
+  pub bad_end : (from : Stage) (text : List ℕ) (first : ℕ) (stage : Stage) (rest : List ℕ) (number : ℕ) → ReadTo Goes from text first stage rest number →
+      ((line more : List ℕ) → IsLine line → rest ≡ line ++ more → ⊥) → (MayEnd stage → rest ≢ []) → IsFirstBad Goes Breaks MayEnd from text first number
+  bad_end from text first stage rest number reads none not_whole = record {
+    stage = stage;
+    rest = rest;
+    reads = reads;
+    not_whole = not_whole;
+    no_line = λ line more next is same goes. none line more is same;
+    no_limit = λ line more limit is same breaks. none line more is same;
+  }
+
+  -- the first bad line, where the line that stands there neither goes on nor passes a limit
+  pub bad_line : (from : Stage) (text : List ℕ) (first : ℕ) (stage : Stage) (rest : List ℕ) (number : ℕ) (line more : List ℕ) → ReadTo Goes from text first stage rest number →
+      IsLine line → rest ≡ line ++ more → ((next : Stage) → Goes stage line next → ⊥) → ((limit : Limit) → Breaks stage line limit → ⊥) →
+      IsFirstBad Goes Breaks MayEnd from text first number
+  bad_line from text first stage rest number line more reads is there not_going not_breaking = record {
+    stage = stage;
+    rest = rest;
+    reads = reads;
+    not_whole = λ may_end none. line_there line more is (sym there ∙ none);
+    no_line = λ other after next also same goes.
+        not_going next (subst (λ (z : List ℕ). Goes stage z next) (one_line other line after more also is (sym same ∙ there)).0 goes);
+    no_limit = λ other after limit also same breaks.
+        not_breaking limit (subst (λ (z : List ℕ). Breaks stage z limit) (one_line other line after more also is (sym same ∙ there)).0 breaks);
+  }
+
+  -- the first line that passes a limit
+  pub break_line : (from : Stage) (text : List ℕ) (first : ℕ) (stage : Stage) (rest : List ℕ) (number : ℕ) (line more : List ℕ) (limit : Limit) →
+      ReadTo Goes from text first stage rest number → IsLine line → rest ≡ line ++ more → Breaks stage line limit →
+      IsFirstBreak Goes Breaks from text first number limit
+  break_line from text first stage rest number line more limit reads is there breaks = record {
+    stage = stage;
+    line = line;
+    more = more;
+    reads = subst (λ (z : List ℕ). ReadTo Goes from text first stage z number) there reads;
+    line_is = is;
+    breaks = breaks;
+  }

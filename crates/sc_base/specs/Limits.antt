@@ -1,7 +1,7 @@
 -- The limits of the compiler.
 use Rattle.std.specs.Prelude.{ℕ, ◌-◌, ◌^◌}
 
--- the most gates of a flat text, of a list of events and of an expansion
+-- the most gates of a list that is scheduled, checked or cancelled
 abbrev pub most_gates : ℕ
 most_gates = 4194304
 
@@ -9,19 +9,19 @@ most_gates = 4194304
 abbrev pub most_tokens : ℕ
 most_tokens = 4194304
 
--- the most wires of a class in one body
+-- the most wires of one instance, of both classes together
 abbrev pub most_wires : ℕ
 most_wires = 65536
 
--- the most instances of a source, and modules of a hierarchical text
+-- the most instances of a source and modules of a hierarchical text, main included
 abbrev pub most_instances : ℕ
 most_instances = 65536
 
--- the most items of a deck
+-- the most items of one module
 abbrev pub most_items : ℕ
 most_items = 1048576
 
--- the most steps of a run
+-- the most steps of one body
 abbrev pub most_steps : ℕ
 most_steps = 1048576
 
@@ -37,7 +37,7 @@ most_reach = 16777216
 abbrev pub most_text_bytes : ℕ
 most_text_bytes = 134217728
 
--- the greatest height of a module: how many calls lie in one another
+-- the greatest depth of calls, main included
 abbrev pub most_depth : ℕ
 most_depth = 256
 
@@ -45,10 +45,10 @@ most_depth = 256
 abbrev pub most_nesting : ℕ
 most_nesting = 128
 
--- the most wires of a class in a flat list
+-- the most qubits, and the most cbits, of a flat list
 abbrev pub most_flat_wires : ℕ
 most_flat_wires = 4294967295
 
--- the greatest count that is told
+-- the greatest count of gates, weight, qubits or cbits
 abbrev pub most_count : ℕ
 most_count = 2 ^ 128 - 1

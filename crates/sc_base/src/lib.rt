@@ -22,8 +22,6 @@ mod real;
 mod shelf;
 mod sink;
 mod sure;
-#[cfg(test)]
-mod tests;
 mod text;
 
 pub use decimal::{put_u128, read_fixed, read_u64, read_units, write_fixed};

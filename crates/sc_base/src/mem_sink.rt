@@ -101,6 +101,7 @@ impl Sink for MemSink {
         ensures count { IfOk result (λ n. n ≡ takes self.old (length piece.now)) }
         ensures fails { IsErr result ↔ IsTrue (fails_next self.old || self.old.room == 0) }
         ensures state { self.new ≡ sink_after_write self.old piece.now }
+        ensures stood { OnOk result (self.new.faults ≡ self.old.faults) }
     {
         self.calls = self.calls.saturating_add(1);
         if is_listed(self.listed.as_slice(), self.calls) || self.room == 0 {
@@ -122,6 +123,7 @@ impl Sink for MemSink {
 
         ensures fails { IsErr result ↔ IsTrue (fails_next self.old) }
         ensures state { self.new ≡ sink_after_finish self.old }
+        ensures stood { OnOk result (self.new.faults ≡ self.old.faults) }
     {
         self.calls = self.calls.saturating_add(1);
         if is_listed(self.listed.as_slice(), self.calls) {

@@ -1,6 +1,10 @@
-//! The trusted edge: files, standard input and standard output. Nothing is told of their content.
-ghost use Rattle.std.specs.Prelude.{◌≡◌, ◌≤◌, false, true, IfOk, IsErr};
+//! The edge to files, standard input and the standard outputs. Their content is not told, but what is read comes from
+//! the reader in its order, and what is written goes to the writer in its order.
+ghost use Rattle.std.specs.Prelude.{◌≡◌, ◌≢◌, ◌<◌, ◌≤◌, ◌↔◌, false, true, [], length, codes, IfOk, OnOk, OnErr, IsErr};
+ghost use Rattle.std.specs.Io.{ReadsAtMost};
+ghost use Rattle.std.specs.Io.KnownBytes.{ReadConsumes, WriteAppends, Keeps};
 ghost use Rattle.sc_base.specs.Causes.{HasCause};
+ghost use Rattle.sc_base.specs.Sources.{IsSourceOf};
 
 use crate::{Failed, Memory, Shelf, Sink};
 use std::alloc::Global;
@@ -26,6 +30,38 @@ enum Begun {
     File(File),
 }
 
+/// Where the text under a name is read from.
+#[derive(Clone, Copy)]
+enum Source<'a> {
+    Input,
+    File(&'a str),
+    NoPath,
+}
+
+/// Standard input under `-`, and the file of that path under another name, where that is UTF-8.
+fn source_of(name: &[u8]) -> Source<'_>
+    ensures { IsSourceOf name.now result }
+{
+    if name == b"-".as_slice() {
+        return Source::Input;
+    }
+    match str::from_utf8(name) {
+        Ok(path) => Source::File(path),
+        Err(_) => Source::NoPath,
+    }
+}
+
+/// Reads the next bytes of a reader to the front of `buf`, in their order, and answers their number.
+fn read_next<R: Read>(reader: &mut R, buf: &mut [u8]) -> Result<usize, Failed>
+    ensures bound { ReadsAtMost result buf.new }
+    ensures bytes { ReadConsumes (R.remaining reader.old) (R.remaining reader.new) result buf.new }
+{
+    match reader.read(buf) {
+        Ok(count) => Ok(count),
+        Err(_) => Err(Failed),
+    }
+}
+
 impl RealShelf {
     /// No text is begun, and no fault is counted.
     pub fn new(rt: HostRuntime) -> RealShelf
@@ -40,9 +76,26 @@ impl RealShelf {
         }
     }
 
+    /// Begins the file of the path, where it can be opened.
+    fn open(&mut self, path: &str) -> Result<(), Failed>
+        ensures cause { HasCause self.old.faults self.new.faults result }
+        ensures file { OnOk result (self.new.begun ≢ Begun.Input) }
+        ensures none_begun { OnErr result (self.new.begun ≡ Begun.Nothing) }
+        ensures stood { OnOk result (self.new.faults ≡ self.old.faults) }
+    {
+        match fs::open(&self.rt, path) {
+            Ok(file) => {
+                self.begun = Begun::File(file);
+                Ok(())
+            }
+            Err(_) => self.fail(),
+        }
+    }
+
     /// Counts a fault. No text is begun then.
     fn fail<T>(&mut self) -> Result<T, Failed>
-        ensures { HasCause self.old.faults self.new.faults result × IsErr result }
+        ensures cause { HasCause self.old.faults self.new.faults result × IsErr result }
+        ensures none_begun { self.new.begun ≡ Begun.Nothing }
     {
         self.begun = Begun::Nothing;
         self.faults = self.faults.saturating_add(1);
@@ -63,29 +116,35 @@ impl Shelf for RealShelf {
 
     ghost faults = { λ s. s.faults };
 
-    fn begin(&mut self, name: &[u8]) -> Result<(), Failed> {
+    fn begin(&mut self, name: &[u8]) -> Result<(), Failed>
+        ensures cause { HasCause self.old.faults self.new.faults result }
+
+        ensures input { OnOk result ((self.new.begun ≡ Begun.Input) ↔ (name.now ≡ codes "-")) }
+        ensures none_begun { OnErr result (self.new.begun ≡ Begun.Nothing) }
+        ensures stood { OnOk result (self.new.faults ≡ self.old.faults) }
+    {
         self.begun = Begun::Nothing;
-        if name == b"-".as_slice() {
-            self.begun = Begun::Input;
-            return Ok(());
-        }
-        let Ok(path) = str::from_utf8(name) else {
-            return self.fail();
-        };
-        match fs::open(&self.rt, path) {
-            Ok(file) => {
-                self.begun = Begun::File(file);
+        match source_of(name) {
+            Source::Input => {
+                self.begun = Begun::Input;
                 Ok(())
             }
-            Err(_) => self.fail(),
+            Source::File(path) => self.open(path),
+            Source::NoPath => self.fail(),
         }
     }
 
-    fn read(&mut self, buf: &mut [u8]) -> Result<usize, Failed> {
+    fn read(&mut self, buf: &mut [u8]) -> Result<usize, Failed>
+        ensures bound { IfOk result (λ n. n ≤ length buf.new) }
+        ensures cause { HasCause self.old.faults self.new.faults result }
+
+        ensures stood { OnOk result (self.new.faults ≡ self.old.faults) }
+        ensures none_begun { OnErr result (self.new.begun ≡ Begun.Nothing) }
+    {
         let answer = match &mut self.begun {
             Begun::Nothing => return Ok(0),
-            Begun::Input => self.input.read(buf),
-            Begun::File(file) => file.read(buf),
+            Begun::Input => read_next(&mut self.input, buf),
+            Begun::File(file) => read_next(file, buf),
         };
         match answer {
             Ok(count) => Ok(count),
@@ -128,6 +187,7 @@ impl<W: Write + Drop> RealSink<W> {
     fn fail<T>(&mut self) -> Result<T, Failed>
         ensures cause { HasCause self.old.faults self.new.faults result × IsErr result }
         ensures open { self.new.is_ended ≡ self.old.is_ended }
+        ensures inner { self.new.inner ≡ self.old.inner }
     {
         self.faults = self.faults.saturating_add(1);
         Err(Failed)
@@ -136,6 +196,7 @@ impl<W: Write + Drop> RealSink<W> {
 
 impl<W: Write + Drop> Sink for RealSink<W> {
     ghost use Rattle.std.specs.Prelude.{false, []};
+    ghost use Rattle.std.specs.Io.Buffered.{writer_contents, writer_buffer};
 
     ghost tells = { λ _. false };
 
@@ -145,14 +206,35 @@ impl<W: Write + Drop> Sink for RealSink<W> {
 
     ghost is_ended = { λ s. s.is_ended };
 
-    fn write(&mut self, piece: &[u8]) -> Result<usize, Failed> {
+    fn write(&mut self, piece: &[u8]) -> Result<usize, Failed>
+        requires open { self.old.is_ended ≡ false }
+        requires nonempty { 0 < length piece.now }
+        ensures open { self.new.is_ended ≡ false }
+        ensures some { IfOk result (λ n. 0 < n) }
+        ensures bound { IfOk result (λ n. n ≤ length piece.now) }
+        ensures cause { HasCause self.old.faults self.new.faults result }
+
+        // What is answered as written was appended to what the writer holds, where that is known.
+        ensures held { WriteAppends (writer_contents W.contents self.old.inner) (writer_contents W.contents self.new.inner) result piece.now }
+        ensures stood { OnOk result (self.new.faults ≡ self.old.faults) }
+    {
         match self.inner.write(piece) {
             Ok(0) | Err(_) => self.fail(),
             Ok(count) => Ok(count),
         }
     }
 
-    fn finish(&mut self) -> Result<(), Failed> {
+    fn finish(&mut self) -> Result<(), Failed>
+        requires open { self.old.is_ended ≡ false }
+        ensures ended { OnOk result (self.new.is_ended ≡ true) }
+        ensures open { OnErr result (self.new.is_ended ≡ false) }
+        ensures cause { HasCause self.old.faults self.new.faults result }
+
+        // Nothing is left in the buffer of a sink that was ended.
+        ensures held { Keeps (writer_contents W.contents self.old.inner) (writer_contents W.contents self.new.inner) }
+        ensures passed_on { OnOk result (writer_buffer self.new.inner ≡ []) }
+        ensures stood { OnOk result (self.new.faults ≡ self.old.faults) }
+    {
         match self.inner.flush() {
             Ok(()) => {
                 self.is_ended = true;

@@ -7,8 +7,6 @@ mod laws;
 mod places;
 mod reader;
 mod steps;
-#[cfg(test)]
-mod tests;
 mod text_reader;
 
 pub use finding::{Finding, verdict};

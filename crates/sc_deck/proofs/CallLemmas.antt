@@ -1,6 +1,7 @@
 -- The classes of a call's wires against those of parameters.
-use Rattle.std.proofs.Common.{◌≡◌, ◌≢◌, ℕ, ◌+◌, ◌<◌, ◌≤◌, List, [], ◌∷◌, ◌++◌, map, length, take, drop, replicate, get_or, sym, ap, ◌∙◌, arith, length-append, length-take-le, append_assoc, append-nil}
-use Rattle.std.specs.Prelude.{flat_map}
+use Rattle.std.proofs.Common.{◌≡◌, ◌≢◌, ℕ, ◌+◌, ◌<◌, ◌≤◌, List, [], ◌∷◌, ◌++◌, map, length, take, drop, replicate, get_or, sym, ap, subst, ◌∙◌, arith, length-append, length-take-le, append_assoc, append-nil}
+use Rattle.std.specs.Prelude.{flat_map, All}
+use Rattle.std.proofs.lemmas.List.Elements.{All-push}
 use Rattle.std.proofs.lemmas.List.{take_more, take-map, length-map, length-replicate, get_or-map, get_or-replicate, take-append-le, take-append-drop, append_cancel_left, map-append, nil_from_length}
 use Rattle.std.proofs.lemmas.Grind.{flat_map-append}
 use Rattle.std.proofs.Math.Seq.{take-length}
@@ -8,7 +9,14 @@ use Rattle.sc_base.specs.declared.names.Class.{Class}
 use Rattle.sc_gate.specs.declared.gate.Wire.{Wire}
 use Rattle.sc_gate.specs.Gates.{class_of}
 use Rattle.sc_deck.specs.declared.key.Arg.{Arg}
-use Rattle.sc_deck.specs.Keys.{arg_classes}
+use Rattle.sc_deck.specs.Keys.{arg_classes, ArgInRange}
+
+-- arguments in range, one argument more
+pub ranges_more : (args : List Arg) (i : ℕ) (d : Arg) → i < length args → All ArgInRange (take i args) → ArgInRange (get_or args i d) → All ArgInRange (take (i + 1) args)
+ranges_more args i d below so_far here = rw (take_more args i d below) (All-push ArgInRange (take i args) (get_or args i d) so_far here)
+
+pub ranges_end : (args : List Arg) (i : ℕ) → i ≡ length args → All ArgInRange (take i args) → All ArgInRange args
+ranges_end args i all so_far = subst (All ArgInRange) (ap (λ (k : ℕ). take k args) all ∙ take-length args) so_far
 
 -- a wire of a list whose classes are all one
 pub class_at : (wires : List Wire) (class : Class) (i : ℕ) (d : Wire) → i < length wires → map class_of wires ≡ replicate (length wires) class → (get_or wires i d).class ≡ class

@@ -10,7 +10,7 @@ use Rattle.sc_deck.specs.declared.item.Item.{Item}
 use Rattle.sc_deck.specs.Items.{callee_of, callees_of}
 use Rattle.sc_deck.specs.Modules.{greatest, greatest_called}
 
-greatest-append : (ns ms : List ℕ) → greatest (ns ++ ms) ≡ max (greatest ns) (greatest ms)
+pub greatest-append : (ns ms : List ℕ) → greatest (ns ++ ms) ≡ max (greatest ns) (greatest ms)
 greatest-append [] ms = omega arith
 greatest-append (n ∷ ns) ms = let h = greatest-append ns ms in omega arith
 

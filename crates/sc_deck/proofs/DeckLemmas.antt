@@ -1,5 +1,5 @@
 -- One more body at the end of a deck.
-use Rattle.std.proofs.Common.{◌≡◌, ◌≢◌, ℕ, zero, suc, ◌+◌, ◌≤◌, ◌<◌, Bool, true, false, ◌||◌, List, [], ◌∷◌, ◌++◌, map, length, drop, get_or, slice_get, Some, inl, inr, refl, sym, ap, ◌∙◌, subst, arith, length-append, append_assoc, append-nil, ◌⊎◌, AllPairs}
+use Rattle.std.proofs.Common.{◌≡◌, ◌≢◌, ℕ, zero, suc, ◌+◌, ◌≤◌, ◌<◌, Bool, true, false, ◌||◌, List, [], ◌∷◌, ◌++◌, map, length, drop, get_or, slice_get, Some, inl, inr, refl, sym, ap, ◌∙◌, subst, arith, length-append, append_assoc, append-nil, ◌⊎◌, All, AllPairs}
 use Rattle.std.specs.Prelude.{nat_eq, IsSomeAnd}
 use Rattle.std.specs.List.{list_any}
 use Rattle.std.proofs.lemmas.Bool.{cases_lt, eqb-true}
@@ -17,11 +17,11 @@ use Rattle.sc_deck.specs.declared.key.Key.{Key}
 use Rattle.sc_deck.specs.declared.entry.Entry.{Entry}
 use Rattle.sc_deck.specs.Bodies.{IsBody, wires_of}
 use Rattle.sc_deck.specs.Items.{callees_of}
-use Rattle.sc_deck.specs.Keys.{HasLengths, params_of}
+use Rattle.sc_deck.specs.Keys.{HasLengths, ArgInRange, params_of}
 use Rattle.sc_deck.specs.Modules.{Module, key_of, body_of, height_over, heights_of, reach_over, reaches_of, greatest_called, calls, is_called}
 use Rattle.sc_deck.specs.Decks.{CallsFit, CallEarlier, IsNewKey, IsDeck}
 use Rattle.sc_deck.specs.Entries.{module_in, modules_in, height_in, reach_in, KeepsDeck}
-use Rattle.sc_deck.specs.Numbers.{both}
+use Rattle.sc_gate.specs.Numbers.{both}
 use Rattle.sc_deck.proofs.EarlierLemmas.{from_earlier-push}
 
 CallEarlier-push : (before modules : List Module) (m : Module) → CallEarlier before modules → CallsFit (before ++ modules) m.items → CallEarlier before (modules ++ m ∷ [])
@@ -29,13 +29,14 @@ CallEarlier-push before [] m earlier fit = (subst (λ (ms : List Module). CallsF
 CallEarlier-push before (n ∷ modules) m earlier fit =
     (earlier.0, CallEarlier-push (before ++ n ∷ []) modules m earlier.1 (subst (λ (ms : List Module). CallsFit ms m.items) (sym (append_assoc before (n ∷ []) modules)) fit))
 
-pub IsDeck-push : (modules : List Module) (m : Module) → IsDeck modules → IsNewKey modules m.key → HasLengths m.key → IsBody (body_of m) → length modules < 65536 → CallsFit modules m.items → IsDeck (modules ++ m ∷ [])
-IsDeck-push modules m deck new lengths body room fit = record {
+pub IsDeck-push : (modules : List Module) (m : Module) → IsDeck modules → IsNewKey modules m.key → HasLengths m.key → All ArgInRange m.key.args → IsBody (body_of m) → length modules < 65536 → CallsFit modules m.items → IsDeck (modules ++ m ∷ [])
+IsDeck-push modules m deck new lengths args body room fit = record {
   distinct = subst (λ (ks : List Key). AllPairs (λ k l. k ≢ l) ks) (sym (map-append key_of modules (m ∷ [])))
       (all_pairs_push (λ k l. k ≢ l) (map key_of modules) m.key deck.distinct
       (λ k d below. let within : k < length modules = subst (λ (n : ℕ). k < n) (length-map modules key_of) below in
       λ e. new k m within (sym (get_or-map key_of modules k m d within) ∙ e)));
   lengths = All-push (λ n. HasLengths n.key) modules m deck.lengths lengths;
+  args = All-push (λ n. All ArgInRange n.key.args) modules m deck.args args;
   bodies = All-push (λ n. IsBody (body_of n)) modules m deck.bodies body;
   calls = CallEarlier-push [] modules m deck.calls fit;
   few = rw (length-append modules (m ∷ [])) (omega arith);
@@ -100,19 +101,19 @@ marks_push modules m marks now fit old new were are i below =
         ∙ ap (is_called (modules ++ m ∷ [])) (sym at)
 
 pub KeepsDeck-push : (entries : List (Key × Entry)) (marks now : List Bool) (key : Key) (entry : Entry) → KeepsDeck entries marks →
-    IsNewKey (modules_in entries) key → HasLengths key → entry.body.params ≡ params_of key → IsBody entry.body → length (modules_in entries) < 65536 → CallsFit (modules_in entries) entry.body.items →
+    IsNewKey (modules_in entries) key → HasLengths key → All ArgInRange key.args → entry.body.params ≡ params_of key → IsBody entry.body → length (modules_in entries) < 65536 → CallsFit (modules_in entries) entry.body.items →
     entry.height ≡ greatest_called (map height_in entries) entry.body.items + 1 →
     entry.reach ≡ greatest_called (map reach_in entries) entry.body.items + both (wires_of entry.body) →
     length now ≡ length entries + 1 →
     ((i : ℕ) → i < length (marks ++ false ∷ []) → get_or now i false ≡ (get_or (marks ++ false ∷ []) i false || list_any (nat_eq i) (callees_of entry.body.items))) →
     KeepsDeck (entries ++ (key, entry) ∷ []) now
-KeepsDeck-push entries marks now key entry kept new lengths params body room fit height reach long are =
+KeepsDeck-push entries marks now key entry kept new lengths args params body room fit height reach long are =
     let m : Module = module_in (key, entry) in
     let as_body : entry.body ≡ body_of m = λ i. record { params = params i; items = entry.body.items } in
     let more : modules_in (entries ++ (key, entry) ∷ []) ≡ modules_in entries ++ m ∷ [] = map-append module_in entries ((key, entry) ∷ []) in
     let same : length (modules_in entries) ≡ length entries = length-map entries module_in in
     record {
-      sound = subst IsDeck (sym more) (IsDeck-push (modules_in entries) m kept.sound new lengths (subst IsBody as_body body) room fit);
+      sound = subst IsDeck (sym more) (IsDeck-push (modules_in entries) m kept.sound new lengths args (subst IsBody as_body body) room fit);
       params = All-push (λ (p : Key × Entry). p.1.body.params ≡ params_of p.0) entries (key, entry) kept.params params;
       heights = map-append height_in entries ((key, entry) ∷ [])
           ∙ (λ i. kept.heights i ++ (height ∙ ap (λ (hs : List ℕ). height_over hs m) kept.heights) i ∷ [])

@@ -9,7 +9,7 @@ use Rattle.sc_deck.specs.Bodies.{IsBody, wires_of}
 use Rattle.sc_deck.specs.Items.{callees_of}
 use Rattle.sc_deck.specs.Modules.{Module, body_of, from_earlier, greatest, greatest_called, height_over, heights_of, reach_over, reaches_of}
 use Rattle.sc_deck.specs.Decks.{IsDeck}
-use Rattle.sc_deck.specs.Numbers.{both}
+use Rattle.sc_gate.specs.Numbers.{both}
 
 -- one more module at the end
 pub from_earlier-push : {A : Type 0} (f : List A → Module → A) (done : List A) (modules : List Module) (m : Module) → from_earlier f done (modules ++ m ∷ []) ≡ from_earlier f done modules ++ f (from_earlier f done modules) m ∷ []

@@ -1,13 +1,15 @@
 -- Which wire a local wire stands for, and how many wires of each class there are.
 use Rattle.std.proofs.Common.{◌≡◌, ℕ, zero, suc, ◌+◌, ◌<◌, Bool, true, false, cond, List, [], ◌∷◌, ◌++◌, map, filter, length, get_or, replicate, refl, sym, ap, ◌∙◌, subst, append-nil, length-append, arith, true≢false}
 use Rattle.std.specs.Prelude.{flat_map, fold}
-use Rattle.std.proofs.lemmas.List.{get_or-map}
+use Rattle.std.proofs.Math.ListN.{get_or-append}
+use Rattle.std.proofs.lemmas.List.{get_or-map, get_or-append-add}
 use Rattle.std.proofs.lemmas.List.Elements.{filter-append, filter_passes}
 use Rattle.sc_base.specs.declared.names.Class.{Class}
 use Rattle.sc_base.specs.declared.names.Class.TheVariants.{Q, C}
 use Rattle.sc_gate.specs.declared.gate.Wire.{Wire}
 use Rattle.sc_gate.specs.Gates.{class_of}
 use Rattle.sc_gate.specs.Wires.{same_class}
+use Rattle.sc_gate.proofs.WireLemmas.{same_class-true}
 use Rattle.sc_deck.specs.declared.key.Arg.{Arg}
 use Rattle.sc_deck.specs.declared.key.Arg.TheVariants.{Int, Double, One, Many}
 use Rattle.sc_deck.specs.declared.key.Key.{Key}
@@ -15,14 +17,10 @@ use Rattle.sc_deck.specs.declared.item.Item.{Item}
 use Rattle.sc_deck.specs.declared.item.Item.TheVariants as item
 use Rattle.sc_deck.specs.Items.{after_item}
 use Rattle.sc_deck.specs.Keys.{arg_classes, param_classes, with_arg, params_of}
-use Rattle.sc_deck.specs.Numbers.{Numbers, number_of, with_more, no_wires}
-use Rattle.sc_deck.specs.Unfolding.{wires_from, of_class, placed, made_by}
-
-same_class-true : (c d : Class) → same_class c d ≡ true → d ≡ c
-same_class-true Q Q h = refl
-same_class-true C C h = refl
-same_class-true Q C h = absurd (true≢false (sym h))
-same_class-true C Q h = absurd (true≢false (sym h))
+use Rattle.sc_gate.specs.Numbers.{Numbers, number_of, with_more, no_wires, AreThere}
+use Rattle.sc_deck.specs.Placing.{Sized}
+use Rattle.sc_deck.specs.Renaming.{wire}
+use Rattle.sc_deck.specs.Unfolding.{wires_from, of_class, placed, places_with}
 
 -- a renaming that keeps classes renames the wires of each class
 pub of_class-map : (f : Wire → Wire) → ((w : Wire) → class_of (f w) ≡ class_of w) → (class : Class) (wires : List Wire) → of_class class (map f wires) ≡ map f (of_class class wires)
@@ -38,16 +36,12 @@ of_class-map f keeps class (w ∷ wires) =
 
 -- the wire that a local wire stands for has its class
 pub placed-class : (places : List Wire) (w : Wire) → w.number < length (of_class w.class places) → class_of (placed places w) ≡ w.class
-placed-class places w below = same_class-true w.class _ (filter_passes (λ (v : Wire). same_class w.class v.class) places w.number w below)
+placed-class places w below = sym (same_class-true w.class _ (filter_passes (λ (v : Wire). same_class w.class v.class) places w.number w below))
 
 pub placed-map : (f : Wire → Wire) → ((w : Wire) → class_of (f w) ≡ class_of w) → (places : List Wire) (w : Wire) → w.number < length (of_class w.class places) → placed (map f places) w ≡ f (placed places w)
 placed-map f keeps places w below =
     ap (λ (ws : List Wire). get_or ws w.number w) (of_class-map f keeps w.class places)
     ∙ get_or-map f (of_class w.class places) w.number w w below
-
--- so many wires of each class
-pub record Sized (places : List Wire) (numbers : Numbers) : Type 0 where
-  pub count : (class : Class) → length (of_class class places) ≡ number_of class numbers
 
 length_same : (class : Class) (first n : ℕ) → length (of_class class (wires_from class first n)) ≡ n
 length_same class first zero = refl
@@ -60,7 +54,7 @@ length_other class other first (suc n) apart =
     ap (λ (b : Bool). length (cond b (record { class = other; number = first } ∷ of_class class (wires_from other (suc first) n)) (of_class class (wires_from other (suc first) n)))) apart
     ∙ length_other class other (suc first) n apart
 
-length_more : (class : Class) (places more : List Wire) → length (of_class class (places ++ more)) ≡ length (of_class class places) + length (of_class class more)
+pub length_more : (class : Class) (places more : List Wire) → length (of_class class (places ++ more)) ≡ length (of_class class places) + length (of_class class more)
 length_more class places more =
     ap length (filter-append (λ (v : Wire). same_class class v.class) places more) ∙ length-append (of_class class places) (of_class class more)
 
@@ -70,16 +64,16 @@ grows C C first n numbers = ap (λ (k : ℕ). numbers.cbits + k) (length_same C 
 grows Q C first n numbers = let h = length_other Q C first n refl in omega arith
 grows C Q first n numbers = let h = length_other C Q first n refl in omega arith
 
-pub Sized-item : (places : List Wire) (numbers : Numbers) (i : Item) (next : Numbers) → Sized places numbers → Sized (places ++ made_by i next) (after_item numbers i)
+pub Sized-item : (places : List Wire) (numbers : Numbers) (i : Item) (next : Numbers) → Sized places numbers → Sized (places_with i places next) (after_item numbers i)
 Sized-item places numbers (item.Fresh other n) next sized = record {
   count = λ class. length_more class places (wires_from other (number_of other next) n)
       ∙ ap (λ (k : ℕ). k + length (of_class class (wires_from other (number_of other next) n))) (sized.count class)
       ∙ grows class other (number_of other next) n numbers;
 }
-Sized-item places numbers (item.Gate gate) next sized = subst (λ (ws : List Wire). Sized ws numbers) (sym (append-nil places)) sized
-Sized-item places numbers (item.Call callee wires) next sized = subst (λ (ws : List Wire). Sized ws numbers) (sym (append-nil places)) sized
-Sized-item places numbers (item.Gates gate turns) next sized = subst (λ (ws : List Wire). Sized ws numbers) (sym (append-nil places)) sized
-Sized-item places numbers (item.Calls callee wires turns) next sized = subst (λ (ws : List Wire). Sized ws numbers) (sym (append-nil places)) sized
+Sized-item places numbers (item.Gate gate) next sized = sized
+Sized-item places numbers (item.Call callee wires) next sized = sized
+Sized-item places numbers (item.Gates gate turns) next sized = sized
+Sized-item places numbers (item.Calls callee wires turns) next sized = sized
 
 -- how many of some classes are one class
 count : Class → List Class → ℕ
@@ -144,3 +138,46 @@ Sized-params wires key e = record {
     zero_of : (class : Class) → number_of class no_wires ≡ 0
     zero_of Q = refl
     zero_of C = refl
+
+pub placed-classes : (places : List Wire) (numbers : Numbers) → Sized places numbers → (ws : List Wire) → AreThere numbers ws → map class_of (map (placed places) ws) ≡ map class_of ws
+placed-classes places numbers sized [] there = refl
+placed-classes places numbers sized (w ∷ ws) there =
+    let here = placed-class places w (subst (λ (n : ℕ). w.number < n) (sym (sized.count w.class)) there.0) in
+    let rest = placed-classes places numbers sized ws there.1 in
+    λ i. here i ∷ rest i
+
+-- wires that come behind leave the earlier places
+pub placed-before : (places more : List Wire) (w : Wire) → w.number < length (of_class w.class places) → placed (places ++ more) w ≡ placed places w
+placed-before places more w below =
+    ap (λ (ws : List Wire). get_or ws w.number w) (filter-append (λ (v : Wire). same_class w.class v.class) places more)
+    ∙ get_or-append (of_class w.class places) (of_class w.class more) w w.number below
+
+-- wires of a class from a number on are of that class
+pub of_class-same : (class : Class) (first n : ℕ) → of_class class (wires_from class first n) ≡ wires_from class first n
+of_class-same class first zero = refl
+of_class-same Q first (suc n) = ap (λ (ws : List Wire). wire Q first ∷ ws) (of_class-same Q (suc first) n)
+of_class-same C first (suc n) = ap (λ (ws : List Wire). wire C first ∷ ws) (of_class-same C (suc first) n)
+
+-- and of no other
+pub of_class-other : (class other : Class) (first n : ℕ) → same_class class other ≡ false → of_class class (wires_from other first n) ≡ []
+of_class-other class other first zero apart = refl
+of_class-other class other first (suc n) apart =
+    ap (λ (b : Bool). cond b (wire other first ∷ of_class class (wires_from other (suc first) n)) (of_class class (wires_from other (suc first) n))) apart
+    ∙ of_class-other class other (suc first) n apart
+
+pub wires_from-at : (class : Class) (first n k : ℕ) (d : Wire) → k < n → get_or (wires_from class first n) k d ≡ wire class (first + k)
+wires_from-at class first zero k d below = absurd (omega arith)
+wires_from-at class first (suc n) zero d below = let e : first ≡ first + 0 = omega arith in ap (wire class) e
+wires_from-at class first (suc n) (suc k) d below =
+    let lt : k < n = omega arith in
+    let e : suc first + k ≡ first + suc k = omega arith in
+    wires_from-at class (suc first) n k d lt ∙ ap (wire class) e
+
+-- the fresh wires have the local numbers from the count of their class on
+pub placed-fresh : (places : List Wire) (class : Class) (first n k : ℕ) → k < n → placed (places ++ wires_from class first n) (wire class (length (of_class class places) + k)) ≡ wire class (first + k)
+placed-fresh places class first n k below =
+    let d : Wire = wire class (length (of_class class places) + k) in
+    ap (λ (ws : List Wire). get_or ws (length (of_class class places) + k) d)
+    (filter-append (λ (v : Wire). same_class class v.class) places (wires_from class first n) ∙ ap (λ (ws : List Wire). of_class class places ++ ws) (of_class-same class first n))
+    ∙ get_or-append-add (of_class class places) (wires_from class first n) k d
+    ∙ wires_from-at class first n k d below

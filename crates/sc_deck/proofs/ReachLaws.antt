@@ -14,27 +14,9 @@ use Rattle.sc_deck.specs.CallChains.{Calls, IsCallChain, wires_at, chain_wires, 
 use Rattle.sc_deck.specs.Decks.{CallsFit, CallEarlier, IsDeck}
 use Rattle.sc_deck.specs.Items.{callees_of}
 use Rattle.sc_deck.specs.Modules.{Module, body_of, from_earlier, greatest, greatest_called, reach_over, reaches_of}
-use Rattle.sc_deck.specs.Numbers.{both}
-use Rattle.sc_deck.proofs.DeckLemmas.{callee_there}
+use Rattle.sc_gate.specs.Numbers.{both}
+use Rattle.sc_deck.proofs.EarlierLaws.{callees_below, index_front, indexes_front}
 use Rattle.sc_deck.proofs.ListLemmas.{slice_get_left, slice_get_last, slice_get_there}
-
--- what fitting items call is earlier
-callees_below : (before : List Module) (items : List Item) → CallsFit before items → AllByRecursion (λ j. j < length before) (callees_of items)
-callees_below before [] fit = tt
-callees_below before (item.Fresh class n ∷ items) fit = callees_below before items fit.1
-callees_below before (item.Gate gate ∷ items) fit = callees_below before items fit.1
-callees_below before (item.Gates gate turns ∷ items) fit = callees_below before items fit.1
-callees_below before (item.Call callee wires ∷ items) fit = (callee_there _ before callee fit.0, callees_below before items fit.1)
-callees_below before (item.Calls callee wires turns ∷ items) fit = (callee_there _ before callee fit.0, callees_below before items fit.1)
-
-index_front : (front rest : List ℕ) (j : ℕ) → j < length front → slice_index (front ++ rest) j ≡ slice_index front j
-index_front [] rest j below = absurd (omega arith)
-index_front (n ∷ front) rest zero below = refl
-index_front (n ∷ front) rest (suc j) below = let lt : j < length front = omega arith in index_front front rest j lt
-
-indexes_front : (front rest js : List ℕ) → AllByRecursion (λ j. j < length front) js → map (slice_index (front ++ rest)) js ≡ map (slice_index front) js
-indexes_front front rest [] below = refl
-indexes_front front rest (j ∷ js) below = let more = indexes_front front rest js below.1 in λ i. index_front front rest j below.0 i ∷ more i
 
 -- Every module's number is made of those that it calls, all of which are earlier.
 pub record Solved (modules : List Module) (numbers : List ℕ) : Type 0 where

@@ -15,16 +15,17 @@ use Rattle.sc_deck.specs.declared.item.Item.{Item}
 use Rattle.sc_deck.specs.declared.item.Item.TheVariants as item
 use Rattle.sc_deck.specs.Bodies.{ItemsFit, IsBody}
 use Rattle.sc_deck.specs.Decks.{CallFits, ItemCallFits, CallsFit, CallEarlier, IsDeck}
-use Rattle.sc_deck.specs.Events.{Event, Enter, Fresh, Apply, Return, gates_in, after_events, rename_gate, rename_event}
+use Rattle.sc_deck.specs.Events.{Event, Enter, Fresh, Apply, Return, gates_in, after_events, rename_event}
+use Rattle.sc_gate.specs.Renaming.{rename_gate}
 use Rattle.sc_deck.specs.Items.{ItemFits, after_item}
 use Rattle.sc_deck.specs.Keys.{param_classes, params_of}
 use Rattle.sc_deck.specs.Modules.{Module, body_of, from_earlier}
-use Rattle.sc_deck.specs.Numbers.{Numbers, number_of, with_more, IsThere, AreThere}
+use Rattle.sc_gate.specs.Numbers.{Numbers, number_of, with_more, IsThere, AreThere}
 use Rattle.sc_deck.specs.Renaming.{wire, Renames, CanRename}
-use Rattle.sc_deck.specs.Unfolding.{Unfolding, unfolding_at, unfold_item, unfold_items, unfold_module, unfoldings, unfold_on, made_by, repeated, placed, wires_from, of_class}
-use Rattle.sc_deck.proofs.ListLemmas.{slice_get_left, slice_get_last}
-use Rattle.sc_deck.proofs.PlaceLaws.{Sized, Sized-item, Sized-params, placed-map, placed-class}
-use Rattle.sc_deck.proofs.SequenceLaws.{unfolding_at-before, unfolding_at-seam}
+use Rattle.sc_deck.specs.Unfolding.{Unfolding, unfolding_at, unfold_item, unfold_items, unfold_module, unfoldings, unfold_on, places_with, repeated, placed, wires_from, of_class}
+use Rattle.sc_deck.proofs.EachUnfolding.{Each, each_unfolding}
+use Rattle.sc_deck.specs.Placing.{Sized}
+use Rattle.sc_deck.proofs.PlaceLaws.{Sized-item, Sized-params, placed-map, placed-class}
 
 -- the gates of renamed events are the renamed gates
 pub gates_in-rename : (f : Wire → Wire) (events : List Event) → gates_in (map (rename_event f) events) ≡ map (rename_gate f) (gates_in events)
@@ -78,12 +79,14 @@ made_wires f class first first' (suc n) fresh =
     ap (λ (m : ℕ). f (wire class m)) c ∙ fresh (suc k) ∙ ap (wire class) d) in
     λ i. here i ∷ rest i
 
-made_renamed : (f : Wire → Wire) (i : Item) (next next' : Numbers) → Renames f next next' → map f (made_by i next) ≡ made_by i next'
-made_renamed f (item.Fresh class n) next next' renames = made_wires f class (number_of class next) (number_of class next') n (renames.fresh class)
-made_renamed f (item.Gate gate) next next' renames = refl
-made_renamed f (item.Call callee wires) next next' renames = refl
-made_renamed f (item.Gates gate turns) next next' renames = refl
-made_renamed f (item.Calls callee wires turns) next next' renames = refl
+places_renamed : (f : Wire → Wire) (i : Item) (places : List Wire) (next next' : Numbers) → Renames f next next' → places_with i (map f places) next' ≡ map f (places_with i places next)
+places_renamed f (item.Fresh class n) places next next' renames =
+    ap (λ (ws : List Wire). map f places ++ ws) (sym (made_wires f class (number_of class next) (number_of class next') n (renames.fresh class)))
+    ∙ sym (map-append f places (wires_from class (number_of class next) n))
+places_renamed f (item.Gate gate) places next next' renames = refl
+places_renamed f (item.Call callee wires) places next next' renames = refl
+places_renamed f (item.Gates gate turns) places next next' renames = refl
+places_renamed f (item.Calls callee wires turns) places next next' renames = refl
 
 module _ (f : Wire → Wire) (keeps : (w : Wire) → class_of (f w) ≡ class_of w) (places : List Wire) (numbers : Numbers) (sized : Sized places numbers) where
   there : (w : Wire) → IsThere numbers w → w.number < length (of_class w.class places)
@@ -129,9 +132,8 @@ repeated_renamed f once once' same (suc n) next next' renames =
     ∙ sym (map-append (rename_event f) (once next) (repeated n once (after_events next (once next))))
 
 -- each of these unfoldings can be renamed
-pub record EachRenames (us : List Unfolding) (modules : List Module) : Type 0 where
-  pub long : length us ≡ length modules
-  pub each : (i : ℕ) (m : Module) → slice_get modules i ≡ Some m → CanRename m (unfolding_at us i)
+abbrev pub EachRenames : List Unfolding → List Module → Type 0
+EachRenames us modules = Each CanRename us modules
 
 call_renamed : (us : List Unfolding) (before : List Module) → EachRenames us before → (f : Wire → Wire) (callee : ℕ) (wires passed passed' : List Wire) (next next' : Numbers) →
     CallFits before callee wires → map class_of passed ≡ map class_of wires → passed' ≡ map f passed → Renames f next next' →
@@ -165,13 +167,13 @@ unfold_items-rename us before can f numbers places sized [] fits calls next next
 unfold_items-rename us before can f numbers places sized (i ∷ items) fits calls next next' renames =
     let events : List Event = unfold_item us i places next in
     let here = item_renamed us before can f numbers places sized i fits.0 calls.0 next next' renames in
-    let made : map f places ++ made_by i next' ≡ map f (places ++ made_by i next) = ap (λ (ws : List Wire). map f places ++ ws) (sym (made_renamed f i next next' renames)) ∙ sym (map-append f places (made_by i next)) in
-    let rest = unfold_items-rename us before can f (after_item numbers i) (places ++ made_by i next) (Sized-item places numbers i next sized) items fits.1 calls.1
+    let made = places_renamed f i places next next' renames in
+    let rest = unfold_items-rename us before can f (after_item numbers i) (places_with i places next) (Sized-item places numbers i next sized) items fits.1 calls.1
     (after_events next events) (after_events next' events) (Renames-after f next next' events renames) in
     (λ k. here k ++ unfold_items us items (made k) (after_events next' (here k)))
-    ∙ ap (λ (n : Numbers). map (rename_event f) events ++ unfold_items us items (map f (places ++ made_by i next)) n) (after_events-rename f next' events)
+    ∙ ap (λ (n : Numbers). map (rename_event f) events ++ unfold_items us items (map f (places_with i places next)) n) (after_events-rename f next' events)
     ∙ ap (λ (es : List Event). map (rename_event f) events ++ es) rest
-    ∙ sym (map-append (rename_event f) events (unfold_items us items (places ++ made_by i next) (after_events next events)))
+    ∙ sym (map-append (rename_event f) events (unfold_items us items (places_with i places next) (after_events next events)))
 
 module_renamed : (us : List Unfolding) (before : List Module) → EachRenames us before → (m : Module) → IsBody (body_of m) → CallsFit before m.items → CanRename m (unfold_module us m)
 module_renamed us before can m body calls f wires next next' classes renames =
@@ -179,32 +181,9 @@ module_renamed us before can m body calls f wires next next' classes renames =
     ap (λ (es : List Event). Enter m.key (map f wires) ∷ (es ++ Return m.key ∷ [])) inner
     ∙ ap (λ (es : List Event). Enter m.key (map f wires) ∷ es) (sym (map-append (rename_event f) (unfold_items us m.items wires next) (Return m.key ∷ [])))
 
--- one more unfolding
-each_push : (us : List Unfolding) (before : List Module) → EachRenames us before → (m : Module) (u : Unfolding) → CanRename m u → EachRenames (us ++ u ∷ []) (before ++ m ∷ [])
-each_push us before can m u one = record {
-  long = length-append us (u ∷ []) ∙ ap (λ (n : ℕ). n + 1) can.long ∙ sym (length-append before (m ∷ []));
-  each = λ i k at. by i k at (cases_lt i (length before));
-}
-  where
-    by : (i : ℕ) (k : Module) → slice_get (before ++ m ∷ []) i ≡ Some k → (i < length before) ⊎ (length before ≤ i) → CanRename k (unfolding_at (us ++ u ∷ []) i)
-    by i k at (inl early) =
-        subst (CanRename k) (sym (unfolding_at-before us (u ∷ []) i (subst (λ (n : ℕ). i < n) (sym can.long) early)))
-        (can.each i k (sym (slice_get_left before (m ∷ []) i early) ∙ at))
-    by i k at (inr late) =
-        let last = slice_get_last before m i k late at in
-        subst (CanRename k) (sym (ap (unfolding_at (us ++ u ∷ [])) (last.0 ∙ sym can.long) ∙ unfolding_at-seam us u [])) (subst (λ (x : Module). CanRename x u) last.1 one)
-
-all_renamed : (us : List Unfolding) (before modules : List Module) → EachRenames us before → AllByRecursion (λ (m : Module). IsBody (body_of m)) modules → CallEarlier before modules → EachRenames (from_earlier unfold_module us modules) (before ++ modules)
-all_renamed us before [] can bodies calls = subst (λ (ms : List Module). EachRenames us ms) (sym (append-nil before)) can
-all_renamed us before (m ∷ modules) can bodies calls =
-    subst (λ (ms : List Module). EachRenames (from_earlier unfold_module (us ++ unfold_module us m ∷ []) modules) ms) (append_assoc before (m ∷ []) modules)
-    (all_renamed (us ++ unfold_module us m ∷ []) (before ++ m ∷ []) modules
-    (each_push us before can m (unfold_module us m) (module_renamed us before can m bodies.0 calls.0)) bodies.1 calls.1)
-
 -- RENAMING: each body of a deck
 pub unfoldings-rename : (modules : List Module) → IsDeck modules → EachRenames (unfoldings modules) modules
-unfoldings-rename modules deck =
-    all_renamed [] [] modules (record { long = refl; each = λ i m at. cc }) (recursion_from_All (λ (m : Module). IsBody (body_of m)) modules deck.bodies) deck.calls
+unfoldings-rename modules deck = each_unfolding CanRename module_renamed modules deck
 
 pub unfold_on-rename : (modules : List Module) → IsDeck modules → (i : ℕ) (m : Module) → slice_get modules i ≡ Some m → CanRename m (unfold_on modules i)
 unfold_on-rename modules deck i m at = (unfoldings-rename modules deck).each i m at

@@ -7,8 +7,8 @@ use Rattle.sc_gate.specs.declared.gate.Gate.{Gate}
 use Rattle.sc_deck.specs.declared.item.Item.{Item}
 use Rattle.sc_deck.specs.Events.{Event, Enter, Fresh, Apply, Return, gates_in, after_events, fresh_in}
 use Rattle.sc_deck.specs.Modules.{Module, from_earlier}
-use Rattle.sc_deck.specs.Numbers.{Numbers, number_of, with_more, no_wires}
-use Rattle.sc_deck.specs.Unfolding.{Unfolding, unfolding_at, unfold_item, unfold_items, unfold_module, unfoldings, unfold_on, made_by, places_after, repeated}
+use Rattle.sc_gate.specs.Numbers.{Numbers, number_of, with_more, no_wires}
+use Rattle.sc_deck.specs.Unfolding.{Unfolding, unfolding_at, unfold_item, unfold_items, unfold_module, unfoldings, unfold_on, places_with, places_after, repeated}
 use Rattle.sc_deck.proofs.EarlierLemmas.{from_earlier-push}
 
 pub gates_in-append : (xs ys : List Event) → gates_in (xs ++ ys) ≡ gates_in xs ++ gates_in ys
@@ -32,7 +32,7 @@ pub unfold_items-append : (us : List Unfolding) (items more : List Item) (places
 unfold_items-append us [] more places next = refl
 unfold_items-append us (i ∷ items) more places next =
     let events : List Event = unfold_item us i places next in
-    let places' : List Wire = places ++ made_by i next in
+    let places' : List Wire = places_with i places next in
     let next' : Numbers = after_events next events in
     let rest : List Event = unfold_items us items places' next' in
     ap (λ (es : List Event). events ++ es) (unfold_items-append us items more places' next')
@@ -44,7 +44,7 @@ pub places_after-append : (us : List Unfolding) (items more : List Item) (places
 places_after-append us [] more places next = refl
 places_after-append us (i ∷ items) more places next =
     let events : List Event = unfold_item us i places next in
-    let places' : List Wire = places ++ made_by i next in
+    let places' : List Wire = places_with i places next in
     let next' : Numbers = after_events next events in
     places_after-append us items more places' next'
     ∙ ap (λ (n : Numbers). places_after us more (places_after us items places' next') n) (sym (after_events-append next events (unfold_items us items places' next')))

@@ -11,47 +11,49 @@ use Rattle.sc_deck.specs.declared.item.Item.TheVariants as item
 use Rattle.sc_deck.specs.Events.{Event, Enter, Return, after_events}
 use Rattle.sc_deck.specs.Keys.{param_classes, params_of}
 use Rattle.sc_deck.specs.Modules.{Module, from_earlier}
-use Rattle.sc_deck.specs.Numbers.{Numbers, no_wires}
-use Rattle.sc_deck.specs.Turns.{written_out, same_gate, same_call, joined, with_folded, folded, folded_module, folded_modules}
-use Rattle.sc_deck.specs.Unfolding.{Unfolding, unfolding_at, unfold_item, unfold_items, unfold_module, unfoldings, unfold_on, expansion, numbered, made_by, places_after, repeated}
-use Rattle.sc_deck.proofs.GateTests.{same_gate-true, same_call-true}
+use Rattle.sc_gate.specs.Numbers.{Numbers, no_wires}
+use Rattle.sc_deck.specs.Turns.{written_out, same_call, joined, with_folded, folded, folded_module, folded_modules}
+use Rattle.sc_gate.specs.SameGates.{same_gate}
+use Rattle.sc_deck.specs.Unfolding.{Unfolding, unfolding_at, unfold_item, unfold_items, unfold_module, unfoldings, unfold_on, expansion, numbered, places_with, places_after, repeated}
+use Rattle.sc_deck.proofs.GateTests.{same_call-true}
+use Rattle.sc_gate.proofs.SameGates.{same_gate-true}
 use Rattle.sc_deck.proofs.SequenceLaws.{unfold_items-append}
 
 -- an item that makes no wires, again and again
-again : (us : List Unfolding) (i : Item) → ((next : Numbers) → made_by i next ≡ []) → (n : ℕ) (places : List Wire) (next : Numbers) → unfold_items us (replicate n i) places next ≡ repeated n (λ k. unfold_item us i places k) next
+again : (us : List Unfolding) (i : Item) → ((places : List Wire) (next : Numbers) → places_with i places next ≡ places) → (n : ℕ) (places : List Wire) (next : Numbers) → unfold_items us (replicate n i) places next ≡ repeated n (λ k. unfold_item us i places k) next
 again us i none zero places next = refl
 again us i none (suc n) places next =
     let next' : Numbers = after_events next (unfold_item us i places next) in
-    ap (λ (ws : List Wire). unfold_item us i places next ++ unfold_items us (replicate n i) ws next') (ap (λ (ws : List Wire). places ++ ws) (none next) ∙ append-nil places)
+    ap (λ (ws : List Wire). unfold_item us i places next ++ unfold_items us (replicate n i) ws next') (none places next)
     ∙ ap (λ (es : List Event). unfold_item us i places next ++ es) (again us i none n places next')
 
-places_again : (us : List Unfolding) (i : Item) → ((next : Numbers) → made_by i next ≡ []) → (n : ℕ) (places : List Wire) (next : Numbers) → places_after us (replicate n i) places next ≡ places
+places_again : (us : List Unfolding) (i : Item) → ((places : List Wire) (next : Numbers) → places_with i places next ≡ places) → (n : ℕ) (places : List Wire) (next : Numbers) → places_after us (replicate n i) places next ≡ places
 places_again us i none zero places next = refl
 places_again us i none (suc n) places next =
     let next' : Numbers = after_events next (unfold_item us i places next) in
-    ap (λ (ws : List Wire). places_after us (replicate n i) ws next') (ap (λ (ws : List Wire). places ++ ws) (none next) ∙ append-nil places)
+    ap (λ (ws : List Wire). places_after us (replicate n i) ws next') (none places next)
     ∙ places_again us i none n places next'
 
 unfold_written : (us : List Unfolding) (i : Item) (places : List Wire) (next : Numbers) → unfold_items us (written_out i) places next ≡ unfold_item us i places next
 unfold_written us (item.Fresh class n) places next = append-nil (unfold_item us (item.Fresh class n) places next)
 unfold_written us (item.Gate gate) places next = append-nil (unfold_item us (item.Gate gate) places next)
 unfold_written us (item.Call callee wires) places next = append-nil (unfold_item us (item.Call callee wires) places next)
-unfold_written us (item.Gates gate turns) places next = again us (item.Gate gate) (λ _. refl) turns places next
-unfold_written us (item.Calls callee wires turns) places next = again us (item.Call callee wires) (λ _. refl) turns places next
+unfold_written us (item.Gates gate turns) places next = again us (item.Gate gate) (λ _ _. refl) turns places next
+unfold_written us (item.Calls callee wires turns) places next = again us (item.Call callee wires) (λ _ _. refl) turns places next
 
-places_written : (us : List Unfolding) (i : Item) (places : List Wire) (next : Numbers) → places_after us (written_out i) places next ≡ places ++ made_by i next
+places_written : (us : List Unfolding) (i : Item) (places : List Wire) (next : Numbers) → places_after us (written_out i) places next ≡ places_with i places next
 places_written us (item.Fresh class n) places next = refl
 places_written us (item.Gate gate) places next = refl
 places_written us (item.Call callee wires) places next = refl
-places_written us (item.Gates gate turns) places next = places_again us (item.Gate gate) (λ _. refl) turns places next ∙ sym (append-nil places)
-places_written us (item.Calls callee wires turns) places next = places_again us (item.Call callee wires) (λ _. refl) turns places next ∙ sym (append-nil places)
+places_written us (item.Gates gate turns) places next = places_again us (item.Gate gate) (λ _ _. refl) turns places next
+places_written us (item.Calls callee wires turns) places next = places_again us (item.Call callee wires) (λ _ _. refl) turns places next
 
 -- TURNS: items unfold as the list in which each is written out
 pub unfold_items-written_out : (us : List Unfolding) (items : List Item) (places : List Wire) (next : Numbers) → unfold_items us items places next ≡ unfold_items us (flat_map written_out items) places next
 unfold_items-written_out us [] places next = refl
 unfold_items-written_out us (i ∷ items) places next =
     let events : List Event = unfold_item us i places next in
-    let places' : List Wire = places ++ made_by i next in
+    let places' : List Wire = places_with i places next in
     let next' : Numbers = after_events next events in
     ap (λ (es : List Event). events ++ es) (unfold_items-written_out us items places' next')
     ∙ sym (λ k. unfold_written us i places next k ++ unfold_items us (flat_map written_out items) (places_written us i places next k) (after_events next (unfold_written us i places next k)))
@@ -130,7 +132,7 @@ folded-push items i = onto [] items
 unfold_module-folded : (us : List Unfolding) (m : Module) → unfold_module us (folded_module m) ≡ unfold_module us m
 unfold_module-folded us m = λ k wires next. Enter m.key wires ∷ (unfold_items-folded us m.items wires next k ++ Return m.key ∷ [])
 
-from_earlier-map : {A : Type 0} (f : List A → Module → A) (h : Module → Module) → ((done : List A) (m : Module) → f done (h m) ≡ f done m) → (done : List A) (modules : List Module) → from_earlier f done (map h modules) ≡ from_earlier f done modules
+pub from_earlier-map : {A : Type 0} (f : List A → Module → A) (h : Module → Module) → ((done : List A) (m : Module) → f done (h m) ≡ f done m) → (done : List A) (modules : List Module) → from_earlier f done (map h modules) ≡ from_earlier f done modules
 from_earlier-map f h same done [] = refl
 from_earlier-map f h same done (m ∷ modules) =
     ap (λ x. from_earlier f (done ++ x ∷ []) (map h modules)) (same done m) ∙ from_earlier-map f h same (done ++ f done m ∷ []) modules

@@ -1,8 +1,8 @@
 -- Bodies: parameter wires and items.
-use Rattle.std.specs.Prelude.{◌≡◌, ℕ, ◌≤◌, List, [], ◌∷◌, ◌++◌}
+use Rattle.std.specs.Prelude.{◌≡◌, ℕ, ◌≤◌, List, [], ◌∷◌, ◌++◌, All}
 use Rattle.sc_deck.specs.declared.item.Item.{Item}
-use Rattle.sc_deck.specs.Items.{after_item, ItemFits}
-use Rattle.sc_deck.specs.Numbers.{Numbers, both}
+use Rattle.sc_deck.specs.Items.{after_item, ItemFits, ItemInRange}
+use Rattle.sc_gate.specs.Numbers.{Numbers, both}
 
 -- what contracts see of a body: the numbers of its parameter wires, and its items
 pub record Contents : Type 0 where
@@ -27,6 +27,8 @@ ItemsFit numbers (i ∷ items) = ItemFits numbers i × ItemsFit (after_item numb
 pub record IsBody (body : Contents) : Type 0 where
   pub fits : ItemsFit body.params body.items
   pub narrow : both (wires_of body) ≤ 65536
+  -- angles and numbers of turns
+  pub in_range : All ItemInRange body.items
 
 abbrev pub with_item : Contents → Item → Contents
 with_item body i = record body { items = body.items ++ i ∷ [] }

@@ -4,7 +4,7 @@ use Rattle.std.specs.Option.{option_map_or}
 use Rattle.sc_deck.specs.Bodies.{wires_of}
 use Rattle.sc_deck.specs.Items.{callees_of}
 use Rattle.sc_deck.specs.Modules.{Module, body_of}
-use Rattle.sc_deck.specs.Numbers.{both}
+use Rattle.sc_gate.specs.Numbers.{both}
 
 -- module i calls module j
 abbrev pub Calls : List Module → ℕ → ℕ → Type 0

@@ -8,7 +8,7 @@ use Rattle.sc_deck.specs.declared.item.Item.{Item}
 use Rattle.sc_deck.specs.declared.item.Item.TheVariants as item
 use Rattle.sc_deck.specs.declared.key.Key.{Key}
 use Rattle.sc_deck.specs.Bodies.{IsBody}
-use Rattle.sc_deck.specs.Keys.{param_classes, HasLengths, main_key}
+use Rattle.sc_deck.specs.Keys.{param_classes, HasLengths, ArgInRange, main_key}
 use Rattle.sc_deck.specs.Modules.{Module, key_of, body_of, is_called}
 
 -- the callee is there, and the wires have its parameters' number and classes, in order
@@ -39,7 +39,8 @@ IsNewKey modules key = All (λ m. m.key ≢ key) modules
 pub record IsDeck (modules : List Module) : Type 0 where
   pub distinct : AllPairs (λ k l. k ≢ l) (map key_of modules)
   pub lengths : All (λ m. HasLengths m.key) modules
-  -- well-formed gates, distinct operands that are there, and at most 65,536 wires
+  pub args : All (λ m. All ArgInRange m.key.args) modules
+  -- well-formed gates, distinct operands that are there, angles and turns in range, and at most 65,536 wires
   pub bodies : All (λ m. IsBody (body_of m)) modules
   pub calls : CallEarlier [] modules
   pub few : length modules ≤ 65536

@@ -1,12 +1,12 @@
 -- What happens in a run, in order: enterings of instances, fresh wires, gates and returns. Wires are those of the whole run.
 use Rattle.std.specs.Prelude.{ℕ, List, [], ◌∷◌, map}
-use Rattle.std.specs.Option.{option_map}
 use Rattle.sc_base.specs.declared.names.Class.{Class}
 use Rattle.sc_gate.specs.declared.gate.Wire.{Wire}
 use Rattle.sc_gate.specs.declared.gate.Gate.{Gate}
 use Rattle.sc_gate.specs.Lines.{flat_text}
+use Rattle.sc_gate.specs.Renaming.{rename_gate}
 use Rattle.sc_deck.specs.declared.key.Key.{Key}
-use Rattle.sc_deck.specs.Numbers.{Numbers, with_more, no_wires}
+use Rattle.sc_gate.specs.Numbers.{Numbers, with_more, no_wires}
 
 pub data Event : Type 0 where
   -- an instance is entered, on these wires as its parameters
@@ -39,10 +39,6 @@ fresh_in events = after_events no_wires events
 -- the flat text of the gates, with the sums of the fresh wires
 abbrev pub flat : List Event → List ℕ
 flat events = flat_text (fresh_in events).qubits (fresh_in events).cbits (gates_in events)
-
--- a gate with its wires renamed
-abbrev pub rename_gate : (Wire → Wire) → Gate → Gate
-rename_gate f gate = record { kind = gate.kind; a = f gate.a; b = option_map f gate.b; c = option_map f gate.c }
 
 -- an event with its wires renamed
 abbrev pub rename_event : (Wire → Wire) → Event → Event

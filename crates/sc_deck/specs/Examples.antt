@@ -1,9 +1,9 @@
 -- A module `g(qbit a)` that declares a qubit t and has H(t) three times and CNOT(t, a), and a main that calls it twice on one qubit.
-use Rattle.std.specs.Prelude.{ℕ, Some, None, List, [], ◌∷◌, codes}
+use Rattle.std.specs.Prelude.{ℕ, List, [], ◌∷◌, codes}
 use Rattle.sc_base.specs.declared.names.Class.TheVariants.{Q}
-use Rattle.sc_gate.specs.declared.gate.Wire.{Wire}
 use Rattle.sc_gate.specs.declared.gate.Kind.TheVariants as kind
 use Rattle.sc_gate.specs.declared.gate.Gate.{Gate}
+use Rattle.sc_gate.specs.Kinds.{qubit, on_one, on_two}
 use Rattle.sc_deck.specs.declared.item.Item.{Item}
 use Rattle.sc_deck.specs.declared.item.Item.TheVariants as item
 use Rattle.sc_deck.specs.declared.key.Arg.TheVariants.{One}
@@ -11,14 +11,11 @@ use Rattle.sc_deck.specs.declared.key.Key.{Key}
 use Rattle.sc_deck.specs.Keys.{main_key}
 use Rattle.sc_deck.specs.Modules.{Module}
 
-abbrev pub qubit : ℕ → Wire
-qubit n = record { class = Q; number = n }
-
 abbrev pub h : ℕ → Gate
-h n = record { kind = kind.H; a = qubit n; b = None; c = None }
+h n = on_one kind.H (qubit n)
 
 abbrev pub cnot : ℕ → ℕ → Gate
-cnot n m = record { kind = kind.Cnot; a = qubit n; b = Some (qubit m); c = None }
+cnot n m = on_two kind.Cnot (qubit n) (qubit m)
 
 abbrev pub g_key : Key
 g_key = record { name = codes "g"; args = One Q ∷ [] }

@@ -1,12 +1,11 @@
 -- Hierarchical texts of keys with items.
-use Rattle.std.specs.Prelude.{◌≡◌, ℕ, ◌+◌, ◌≤◌, ◌<◌, ◌^◌, ◌⊎◌, ℤ, Bool, true, false, ◌||◌, ◌==◌, List, [], ◌∷◌, ◌++◌, map, flat_map, length, codes, decimal, unsigned_abs, FitsSigned, if◌then◌else◌, All, AllPairs, ◌≢◌}
-use Rattle.std.specs.List.{list_any, join_with_byte, AllPass}
-use Rattle.std.specs.Char.{is_ascii_alphabetic, is_ascii_alphanumeric}
-use Rattle.std.specs.Fmt.{sign_text}
-use Rattle.std.specs.Int.{is_negative, w64}
+use Rattle.std.specs.Prelude.{◌≡◌, ℕ, ◌+◌, ◌≤◌, ◌⊎◌, ℤ, Bool, true, false, ◌||◌, ◌==◌, List, [], ◌∷◌, ◌++◌, map, flat_map, length, codes, decimal, unsigned_abs, if◌then◌else◌, All, AllPairs, ◌≢◌}
+use Rattle.std.specs.List.{list_any, join_with_byte}
+use Rattle.std.specs.Fmt.{signed_decimal}
 use Rattle.sc_base.specs.declared.names.Class.{Class}
 use Rattle.sc_base.specs.declared.names.Class.TheVariants.{Q, C}
 use Rattle.sc_base.specs.Decimals.{fixed_text}
+use Rattle.sc_base.specs.NameTexts.{IsNameText}
 use Rattle.sc_gate.specs.declared.gate.Wire.{Wire}
 use Rattle.sc_gate.specs.Lines.{class_letter, wire_text, gate_line, number_line}
 use Rattle.sc_deck.specs.declared.item.Item.{Item}
@@ -15,19 +14,16 @@ use Rattle.sc_deck.specs.declared.key.Arg.{Arg}
 use Rattle.sc_deck.specs.declared.key.Arg.TheVariants.{Int, Double, One, Many}
 use Rattle.sc_deck.specs.declared.key.Key.{Key}
 use Rattle.sc_deck.specs.Bodies.{ItemsFit, wires_of}
+use Rattle.sc_deck.specs.Items.{ItemInRange}
 use Rattle.sc_deck.specs.Decks.{CallEarlier, IsWhole}
-use Rattle.sc_deck.specs.Keys.{params_of, HasLengths}
+use Rattle.sc_deck.specs.Keys.{params_of, HasLengths, ArgInRange}
 use Rattle.sc_deck.specs.Modules.{Module, key_of, body_of, heights_of}
-use Rattle.sc_deck.specs.Numbers.{both}
-use Rattle.sc_deck.specs.Turns.{has_turns, value_of}
-
--- a number with its sign
-abbrev pub int_text : ℤ → List ℕ
-int_text n = sign_text (is_negative n) ++ decimal (unsigned_abs n)
+use Rattle.sc_gate.specs.Numbers.{both}
+use Rattle.sc_deck.specs.Turns.{has_turns}
 
 -- an argument: a number, or the letter of a class, with a length in brackets for an array
 abbrev pub arg_text : Arg → List ℕ
-arg_text (Int n) = int_text n
+arg_text (Int n) = signed_decimal n
 arg_text (Double x) = fixed_text x.0
 arg_text (One class) = class_letter class ∷ []
 arg_text (Many class n) = class_letter class ∷ (codes "[" ++ decimal n ++ codes "]")
@@ -80,29 +76,9 @@ have_turns modules = list_any (λ (m : Module). list_any has_turns m.items) modu
 abbrev pub hier : List Module → List ℕ
 hier modules = hier_text (if have_turns modules then 2 else 1) modules
 
--- a letter or `_`, and then letters, digits and `_`
-abbrev pub IsModuleName : List ℕ → Type 0
-IsModuleName [] = ⊥
-IsModuleName (c ∷ cs) = ((is_ascii_alphabetic c || c == 95) ≡ true) × AllPass (λ d. is_ascii_alphanumeric d || d == 95) cs
-
--- an `int` or a `double` is in range
-abbrev pub ArgInRange : Arg → Type 0
-ArgInRange (Int n) = FitsSigned w64 n
-ArgInRange (Double x) = FitsSigned w64 x.0
-ArgInRange (One class) = Unit {0}
-ArgInRange (Many class n) = Unit {0}
-
--- an angle is in range, and so is a number of turns
-abbrev pub ItemInRange : Item → Type 0
-ItemInRange (item.Fresh class n) = Unit {0}
-ItemInRange (item.Gate gate) = FitsSigned w64 (value_of gate.kind)
-ItemInRange (item.Call callee wires) = Unit {0}
-ItemInRange (item.Gates gate turns) = FitsSigned w64 (value_of gate.kind) × (turns < 2 ^ 64)
-ItemInRange (item.Calls callee wires turns) = turns < 2 ^ 64
-
--- the rules that hold in every hierarchical text
-pub record IsProper (modules : List Module) : Type 0 where
-  pub names : All (λ m. IsModuleName m.key.name) modules
+-- the rules that hold of the modules of every hierarchical text, and of each front of them
+pub record AreProper (modules : List Module) : Type 0 where
+  pub names : All (λ m. IsNameText m.key.name) modules
   pub args : All (λ m. All ArgInRange m.key.args) modules
   pub in_range : All (λ m. All ItemInRange m.items) modules
   -- array lengths of at least 1
@@ -111,6 +87,10 @@ pub record IsProper (modules : List Module) : Type 0 where
   -- fresh wires, turns, and operands that are there and distinct
   pub fits : All (λ m. ItemsFit (params_of m.key) m.items) modules
   pub calls : CallEarlier [] modules
+
+-- the rules that hold of every hierarchical text
+pub record IsProper (modules : List Module) : Type 0 where
+  pub rules : AreProper modules
   pub whole : IsWhole modules
 
 -- the limits on modules
@@ -130,6 +110,6 @@ pub record IsHier (text : List ℕ) (modules : List Module) : Type 0 where
 -- a deck that a hierarchical text may hold: whole, with module names, and within the limits on heights and items
 pub record IsSound (modules : List Module) : Type 0 where
   pub whole : IsWhole modules
-  pub names : All (λ m. IsModuleName m.key.name) modules
+  pub names : All (λ m. IsNameText m.key.name) modules
   pub shallow : All (λ height. height ≤ 256) (heights_of modules)
   pub short : All (λ m. length m.items ≤ 1048576) modules

@@ -1,12 +1,14 @@
 -- Items of a body: fresh wires, a gate, or a call of another body by its number, and gates and calls that are repeated.
-use Rattle.std.specs.Prelude.{ℕ, ◌≤◌, Option, Some, None, List}
+use Rattle.std.specs.Prelude.{ℕ, ◌≤◌, ◌<◌, ◌^◌, FitsSigned, Option, Some, None, List}
+use Rattle.std.specs.Int.{w64}
 use Rattle.std.specs.List.{filter_map}
 use Rattle.sc_gate.specs.declared.gate.Wire.{Wire}
 use Rattle.sc_gate.specs.declared.gate.Gate.{Gate}
 use Rattle.sc_gate.specs.Gates.{operands, AreDistinct, IsWellFormed}
+use Rattle.sc_gate.specs.SameGates.{value_of}
 use Rattle.sc_deck.specs.declared.item.Item.{Item}
 use Rattle.sc_deck.specs.declared.item.Item.TheVariants as item
-use Rattle.sc_deck.specs.Numbers.{Numbers, with_more, AreThere}
+use Rattle.sc_gate.specs.Numbers.{Numbers, with_more, AreThere}
 
 -- the body that an item calls
 abbrev pub callee_of : Item → Option ℕ
@@ -43,3 +45,11 @@ ItemFits numbers (item.Gate gate) = GateFits numbers gate
 ItemFits numbers (item.Call callee wires) = WiresFit numbers wires
 ItemFits numbers (item.Gates gate turns) = GateFits numbers gate × (2 ≤ turns)
 ItemFits numbers (item.Calls callee wires turns) = WiresFit numbers wires × (2 ≤ turns)
+
+-- an angle is in range, and so is a number of turns
+abbrev pub ItemInRange : Item → Type 0
+ItemInRange (item.Fresh class n) = Unit {0}
+ItemInRange (item.Gate gate) = FitsSigned w64 (value_of gate.kind)
+ItemInRange (item.Call callee wires) = Unit {0}
+ItemInRange (item.Gates gate turns) = FitsSigned w64 (value_of gate.kind) × (turns < 2 ^ 64)
+ItemInRange (item.Calls callee wires turns) = turns < 2 ^ 64

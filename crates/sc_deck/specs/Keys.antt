@@ -1,10 +1,11 @@
 -- Keys of instances, and the parameter wires of a key.
-use Rattle.std.specs.Prelude.{◌≤◌, Bool, false, ◌&&◌, nat_eq, List, [], ◌∷◌, replicate, flat_map, fold, All, codes}
+use Rattle.std.specs.Prelude.{◌≤◌, FitsSigned, Bool, false, ◌&&◌, nat_eq, List, [], ◌∷◌, replicate, flat_map, fold, All, codes}
+use Rattle.std.specs.Int.{w64}
 use Rattle.std.specs.Ordering.{int_eq}
 use Rattle.std.specs.Cmp.Lexicographic.{pointwise}
 use Rattle.sc_base.specs.declared.names.Class.{Class}
 use Rattle.sc_gate.specs.Wires.{same_class}
-use Rattle.sc_deck.specs.Numbers.{Numbers, no_wires, with_more}
+use Rattle.sc_gate.specs.Numbers.{Numbers, no_wires, with_more}
 use Rattle.sc_deck.specs.declared.key.Arg.{Arg}
 use Rattle.sc_deck.specs.declared.key.Arg.TheVariants.{Int, Double, One, Many}
 use Rattle.sc_deck.specs.declared.key.Key.{Key}
@@ -51,6 +52,13 @@ HasLength (Many class n) = 1 ≤ n
 
 abbrev pub HasLengths : Key → Type 0
 HasLengths key = All HasLength key.args
+
+-- an `int` or a `double` is in range
+abbrev pub ArgInRange : Arg → Type 0
+ArgInRange (Int n) = FitsSigned w64 n
+ArgInRange (Double x) = FitsSigned w64 x.0
+ArgInRange (One class) = Unit {0}
+ArgInRange (Many class n) = Unit {0}
 
 -- main without arguments
 abbrev pub main_key : Key

@@ -9,7 +9,7 @@ pub mod Items
 pub mod KeyLaws
 pub mod Keys
 pub mod Modules
-pub mod Numbers
+pub mod Placing
 pub mod Renaming
 pub mod Repeats
 pub mod Turns

@@ -1,12 +1,12 @@
 -- Keys with items, and what each has from those before it.
-use Rattle.std.specs.Prelude.{ℕ, ◌+◌, max, List, [], ◌∷◌, ◌++◌, map, Bool, nat_eq, slice_index, drop}
-use Rattle.std.specs.List.{list_any}
+use Rattle.std.specs.Prelude.{◌≡◌, ℕ, ◌+◌, ◌<◌, length, max, List, [], ◌∷◌, ◌++◌, map, Bool, nat_eq, slice_index, drop}
+use Rattle.std.specs.List.{AllByRecursion, list_any}
 use Rattle.sc_deck.specs.declared.item.Item.{Item}
 use Rattle.sc_deck.specs.declared.key.Key.{Key}
 use Rattle.sc_deck.specs.Bodies.{Contents, wires_of}
 use Rattle.sc_deck.specs.Items.{callees_of}
 use Rattle.sc_deck.specs.Keys.{params_of}
-use Rattle.sc_deck.specs.Numbers.{both}
+use Rattle.sc_gate.specs.Numbers.{both}
 
 -- a key with its items, which call earlier modules of a list by their numbers
 pub record Module : Type 0 where
@@ -24,6 +24,10 @@ body_of m = record { params = params_of m.key; items = m.items }
 abbrev pub from_earlier : {A : Type 0} → (List A → Module → A) → List A → List Module → List A
 from_earlier f done [] = done
 from_earlier f done (m ∷ modules) = from_earlier f (done ++ f done m ∷ []) modules
+
+-- f reads the values of callees alone: values that come later change nothing
+abbrev pub ReadsCallees : (A : Type 0) → (List A → Module → A) → Type 0
+ReadsCallees A f = (done more : List A) (m : Module) → AllByRecursion (λ j. j < length done) (callees_of m.items) → f (done ++ more) m ≡ f done m
 
 abbrev pub greatest : List ℕ → ℕ
 greatest [] = 0

@@ -6,7 +6,7 @@ use Rattle.sc_gate.specs.Gates.{class_of}
 use Rattle.sc_deck.specs.Events.{rename_event}
 use Rattle.sc_deck.specs.Keys.{param_classes}
 use Rattle.sc_deck.specs.Modules.{Module}
-use Rattle.sc_deck.specs.Numbers.{Numbers, number_of}
+use Rattle.sc_gate.specs.Numbers.{Numbers, number_of}
 use Rattle.sc_deck.specs.Unfolding.{Unfolding}
 
 abbrev pub wire : Class → ℕ → Wire

@@ -1,5 +1,6 @@
 -- Wires that stand twice in a list.
-use Rattle.std.specs.Prelude.{◌≡◌, ℕ, ◌+◌, ◌<◌, List, length, slice_get}
+use Rattle.std.specs.Prelude.{◌≡◌, ℕ, ◌+◌, ◌<◌, ◌/◌, ◌%◌, List, length, slice_get, slice_index}
+use Rattle.std.specs.Int.{bit_at}
 use Rattle.sc_base.specs.declared.names.Class.{Class}
 use Rattle.sc_base.specs.declared.names.Class.TheVariants.{Q, C}
 use Rattle.sc_gate.specs.declared.gate.Wire.{Wire}
@@ -15,3 +16,7 @@ place_at C n = n + 65536
 
 abbrev pub place_of : Wire → ℕ
 place_of wire = place_at wire.class wire.number
+
+-- the bit of a place in a table of words of 64 bits
+abbrev pub mark_at : List ℕ → ℕ → ℕ
+mark_at seen place = bit_at (slice_index seen (place / 64)) (place % 64)

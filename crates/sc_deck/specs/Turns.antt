@@ -1,15 +1,13 @@
 -- Items with turns, written out and folded.
-use Rattle.std.specs.Prelude.{ℕ, ◌+◌, ℤ, pos, nat_eq, Bool, true, false, ◌&&◌, Option, Some, None, List, [], ◌∷◌, map, fold, replicate, if◌then◌else◌}
+use Rattle.std.specs.Prelude.{◌≡◌, ℕ, ◌+◌, ◌-◌, nat_eq, Bool, true, false, ◌&&◌, List, [], ◌∷◌, map, fold, length, slice_get, replicate, if◌then◌else◌}
+use Rattle.std.specs.Option.{option_map_or}
 use Rattle.std.specs.Cmp.Lexicographic.{pointwise}
-use Rattle.std.specs.Ordering.{int_eq}
 use Rattle.sc_gate.specs.declared.gate.Wire.{Wire}
-use Rattle.sc_gate.specs.declared.gate.Kind.{Kind}
-use Rattle.sc_gate.specs.declared.gate.Kind.TheVariants as kind
 use Rattle.sc_gate.specs.declared.gate.Gate.{Gate}
-use Rattle.sc_gate.specs.Gates.{name_of, place_of}
 use Rattle.sc_gate.specs.Wires.{same_wire}
 use Rattle.sc_deck.specs.declared.item.Item.{Item}
 use Rattle.sc_deck.specs.declared.item.Item.TheVariants as item
+use Rattle.sc_gate.specs.SameGates.{same_gate}
 use Rattle.sc_deck.specs.Modules.{Module}
 
 -- an item with n turns stands for n equal items
@@ -28,31 +26,39 @@ has_turns (item.Call callee wires) = false
 has_turns (item.Gates gate turns) = true
 has_turns (item.Calls callee wires turns) = true
 
--- the angle or the start value of a kind, as a number
-abbrev pub value_of : Kind → ℤ
-value_of (kind.Rx angle) = angle.0
-value_of (kind.Ry angle) = angle.0
-value_of (kind.Rz angle) = angle.0
-value_of (kind.PrepX start) = if start then pos 1 else pos 0
-value_of (kind.PrepZ start) = if start then pos 1 else pos 0
-value_of _ = pos 0
+-- how many turns an item has
+abbrev pub turns_of : Item → ℕ
+turns_of (item.Fresh class n) = 1
+turns_of (item.Gate gate) = 1
+turns_of (item.Call callee wires) = 1
+turns_of (item.Gates gate turns) = turns
+turns_of (item.Calls callee wires turns) = turns
 
--- the same name and the same angle or start value
-abbrev pub same_kind : Kind → Kind → Bool
-same_kind k l = nat_eq (place_of (name_of k)) (place_of (name_of l)) && int_eq (value_of k) (value_of l)
+-- the turns of the last item, and 0 where there is none
+abbrev pub last_turns : List Item → ℕ
+last_turns items = option_map_or turns_of (slice_get items (length items - 1)) 0
 
-abbrev pub same_option : Option Wire → Option Wire → Bool
-same_option None None = true
-same_option None (Some w) = false
-same_option (Some v) None = false
-same_option (Some v) (Some w) = same_wire v w
-
--- the same kind on the same wires
-abbrev pub same_gate : Gate → Gate → Bool
-same_gate g h = same_kind g.kind h.kind && (same_wire g.a h.a && (same_option g.b h.b && same_option g.c h.c))
-
+-- a call of the same body on the same wires
 abbrev pub same_call : ℕ → List Wire → ℕ → List Wire → Bool
 same_call callee wires other others = nat_eq callee other && pointwise same_wire wires others
+
+-- the items apply the same gate, or make the same call, whatever their turns
+abbrev pub same_step : Item → Item → Bool
+same_step (item.Gate g) (item.Gate h) = same_gate g h
+same_step (item.Gate g) (item.Gates h m) = same_gate g h
+same_step (item.Gates g n) (item.Gate h) = same_gate g h
+same_step (item.Gates g n) (item.Gates h m) = same_gate g h
+same_step (item.Call c ws) (item.Call d vs) = same_call c ws d vs
+same_step (item.Call c ws) (item.Calls d vs m) = same_call c ws d vs
+same_step (item.Calls c ws n) (item.Call d vs) = same_call c ws d vs
+same_step (item.Calls c ws n) (item.Calls d vs m) = same_call c ws d vs
+same_step i j = false
+
+-- no item is followed by the same gate or the same call
+abbrev pub NeighboursDiffer : List Item → Type 0
+NeighboursDiffer [] = Unit {0}
+NeighboursDiffer (i ∷ []) = Unit {0}
+NeighboursDiffer (i ∷ j ∷ items) = (same_step i j ≡ false) × NeighboursDiffer (j ∷ items)
 
 -- an item after another: one item with turns where both are the same gate, or the same call
 abbrev pub joined : Item → Item → List Item

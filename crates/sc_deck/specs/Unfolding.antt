@@ -7,10 +7,11 @@ use Rattle.sc_gate.specs.declared.gate.Gate.{Gate}
 use Rattle.sc_gate.specs.Wires.{same_class}
 use Rattle.sc_deck.specs.declared.item.Item.{Item}
 use Rattle.sc_deck.specs.declared.item.Item.TheVariants as item
-use Rattle.sc_deck.specs.Events.{Event, Enter, Fresh, Apply, Return, gates_in, after_events, rename_gate}
+use Rattle.sc_deck.specs.Events.{Event, Enter, Fresh, Apply, Return, gates_in, after_events}
+use Rattle.sc_gate.specs.Renaming.{rename_gate}
 use Rattle.sc_deck.specs.Keys.{param_classes, params_of}
 use Rattle.sc_deck.specs.Modules.{Module, from_earlier}
-use Rattle.sc_deck.specs.Numbers.{Numbers, number_of, with_more, no_wires}
+use Rattle.sc_gate.specs.Numbers.{Numbers, number_of, with_more, no_wires}
 
 -- n wires of a class, from a number on
 abbrev pub wires_from : Class → ℕ → ℕ → List Wire
@@ -26,13 +27,13 @@ of_class class wires = filter (λ w. same_class class w.class) wires
 abbrev pub placed : List Wire → Wire → Wire
 placed places wire = slice_index_or (of_class wire.class places) wire.number wire
 
--- the wires that an item makes
-abbrev pub made_by : Item → Numbers → List Wire
-made_by (item.Fresh class n) next = wires_from class (number_of class next) n
-made_by (item.Gate gate) next = []
-made_by (item.Call callee wires) next = []
-made_by (item.Gates gate turns) next = []
-made_by (item.Calls callee wires turns) next = []
+-- the wires of a body after an item: fresh ones come behind the others
+abbrev pub places_with : Item → List Wire → Numbers → List Wire
+places_with (item.Fresh class n) places next = places ++ wires_from class (number_of class next) n
+places_with (item.Gate gate) places next = places
+places_with (item.Call callee wires) places next = places
+places_with (item.Gates gate turns) places next = places
+places_with (item.Calls callee wires turns) places next = places
 
 -- what a body unfolds to, on the wires that are passed and from the next fresh numbers on
 abbrev pub Unfolding : Type 0
@@ -62,12 +63,12 @@ abbrev pub unfold_items : List Unfolding → List Item → List Wire → Numbers
 unfold_items us [] places next = []
 unfold_items us (i ∷ items) places next =
     let events : List Event = unfold_item us i places next in
-    events ++ unfold_items us items (places ++ made_by i next) (after_events next events)
+    events ++ unfold_items us items (places_with i places next) (after_events next events)
 
 -- the wires of a body after items
 abbrev pub places_after : List Unfolding → List Item → List Wire → Numbers → List Wire
 places_after us [] places next = places
-places_after us (i ∷ items) places next = places_after us items (places ++ made_by i next) (after_events next (unfold_item us i places next))
+places_after us (i ∷ items) places next = places_after us items (places_with i places next) (after_events next (unfold_item us i places next))
 
 -- from the entering to the return
 abbrev pub unfold_module : List Unfolding → Module → Unfolding

@@ -1,10 +1,12 @@
 //! Bodies: the parameter wires and the items of an instance.
-ghost use Rattle.std.specs.Prelude.{◌≡◌, ◌+◌, ◌≤◌, OnOk, OnErr};
+ghost use Rattle.std.specs.Prelude.{◌≡◌, ◌+◌, ◌<◌, ◌≤◌, ◌^◌, OnOk, OnErr};
 ghost use Rattle.sc_gate.specs.Gates.{operands, AreDistinct, IsWellFormed};
 ghost use Rattle.sc_deck.specs.Bodies.{wires_of, with_item, empty_body, IsBody};
-ghost use Rattle.sc_deck.specs.Numbers.{number_of, both, AreThere};
+ghost use Rattle.sc_deck.specs.Turns.{with_folded, last_turns};
+ghost use Rattle.sc_gate.specs.Numbers.{number_of, both, AreThere};
 
-use crate::{Item, Operands};
+use crate::range::kind_has_range;
+use crate::{Item, Operands, fold};
 use sc_base::{Class, List, Memory};
 use sc_gate::{Gate, Wire};
 use std::alloc::Global;
@@ -33,7 +35,8 @@ impl Model for Body {
 }
 
 impl Body {
-    /// A body without items, with so many qubits and classical bits as parameters.
+    /// A body without items, with so many qubits and classical bits as parameters, at most 65,536 together. It takes memory at the
+    /// first push.
     pub fn new(alloc: Global, qubits: u32, cbits: u32) -> Body
         requires { qubits + cbits ≤ 65536 }
         ensures { result ≡ empty_body qubits cbits }
@@ -48,7 +51,7 @@ impl Body {
         }
     }
 
-    /// Appends fresh wires. Unchanged after `Memory`.
+    /// Appends at least one fresh wire of a class, within 65,536 wires in all. Unchanged after `Memory`.
     pub fn push_fresh(&mut self, class: Class, n: u32) -> Result<(), Memory>
         requires some { 1 ≤ n }
         requires room { both (wires_of self.old) + n ≤ 65536 }
@@ -70,6 +73,7 @@ impl Body {
         ensures ok { OnOk result (self.new ≡ with_item self.old (Item.Gate gate)) }
         ensures err { OnErr result (self.new ≡ self.old) }
     {
+        kind_has_range(gate.kind);
         self.items.push(Item::Gate(gate))?;
         Ok(())
     }
@@ -94,6 +98,7 @@ impl Body {
         ensures ok { OnOk result (self.new ≡ with_item self.old (Item.Gates gate turns)) }
         ensures err { OnErr result (self.new ≡ self.old) }
     {
+        kind_has_range(gate.kind);
         self.items.push(Item::Gates(gate, turns))?;
         Ok(())
     }
@@ -111,6 +116,28 @@ impl Body {
         Ok(())
     }
 
+    /// Appends a gate, or adds a turn to the last item where that is the same gate. Unchanged after `Memory`.
+    pub fn fold_gate(&mut self, gate: Gate) -> Result<(), Memory>
+        requires well_formed { IsWellFormed gate }
+        requires there { AreThere (wires_of self.old) (operands gate) }
+        requires room { last_turns self.old.items + 1 < 2 ^ 64 }
+        ensures ok { OnOk result (self.new ≡ record self.old { items = with_folded self.old.items (Item.Gate gate) }) }
+        ensures err { OnErr result (self.new ≡ self.old) }
+    {
+        fold::fold_gate(&mut self.items, self.alloc, gate)?;
+        Ok(())
+    }
+
+    /// How many wires of this class there are so far, parameters included. Takes no memory.
+    pub fn count(&self, class: Class) -> u32
+        ensures { result ≡ number_of class (wires_of self.now) }
+    {
+        match class {
+            Class::Q => self.qubits,
+            Class::C => self.cbits,
+        }
+    }
+
     /// How many wires there are, parameters included, at most 65,536. Takes no memory.
     pub fn wires(&self) -> u32
         ensures count { result ≡ both (wires_of self.now) }
@@ -119,6 +146,7 @@ impl Body {
         self.qubits + self.cbits
     }
 
+    /// The items in order. Takes no memory.
     pub fn items(&self) -> &[Item]
         ensures { result.now ≡ self.now.items }
     {

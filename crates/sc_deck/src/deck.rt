@@ -13,6 +13,7 @@ ghost use Rattle.sc_deck.specs.Modules.{Module, key_of, body_of, heights_of, rea
 ghost use Rattle.sc_deck.specs.Entries.{height_in, reach_in};
 
 use crate::entry::Entry;
+use crate::range::args_have_ranges;
 use crate::{Arg, Body, Item, Key};
 use indexmap::IndexMap;
 use sc_base::{Class, Memory};
@@ -41,6 +42,7 @@ impl Model for Deck {
 }
 
 impl Deck {
+    /// A deck with no body. It takes memory at the first push.
     pub fn new(alloc: Global) -> Deck
         ensures { result ≡ [] }
     {
@@ -50,7 +52,8 @@ impl Deck {
         }
     }
 
-    /// Appends a body under its key and answers its number. Unchanged after `Memory`.
+    /// Appends a body under its key and answers its number, counted from 0. The deck needs room for one more body, and each
+    /// call of the body has to fit (`fits_call`). Unchanged after `Memory`.
     pub fn push_body(&mut self, key: Key, body: Body) -> Result<u32, Memory>
         requires new { IsNewKey self.old key }
         requires lengths { HasLengths key }
@@ -61,6 +64,7 @@ impl Deck {
         ensures pushed { OnOk result (self.new ≡ self.old ++ record { key = key; items = body.items } ∷ []) }
         ensures err { OnErr result (self.new ≡ self.old) }
     {
+        args_have_ranges(key.args.as_slice());
         let number = self.entries.len() as u32;
         let (height, reach) = called_by_all(&self.entries, body.items());
         let height = height + 1;
@@ -89,7 +93,7 @@ impl Deck {
         self.entries.len() as u32
     }
 
-    /// Takes no memory.
+    /// The key of body `i`, counted from 0; None where there is no such body. Takes no memory.
     pub fn key_at(&self, i: u32) -> Option<&Key>
         ensures { option_copied result ≡ option_map key_of (slice_get self.now i) }
     {
@@ -99,7 +103,7 @@ impl Deck {
         }
     }
 
-    /// Takes no memory.
+    /// Body `i`, counted from 0; None where there is no such body. Takes no memory.
     pub fn body_at(&self, i: u32) -> Option<&Body>
         ensures { option_copied result ≡ option_map body_of (slice_get self.now i) }
     {
@@ -119,7 +123,7 @@ impl Deck {
         }
     }
 
-    /// The number of the body with this key. Takes no memory.
+    /// The number of the body with this key; None where no body has it. Takes no memory.
     pub fn find(&self, key: &Key) -> Option<u32>
         ensures found { IfSome result (λ i. option_map key_of (slice_get self.now i) ≡ Some key.now) }
         ensures none { IfNone result (IsNewKey self.now key.now) }
@@ -130,7 +134,8 @@ impl Deck {
         }
     }
 
-    /// The height of body `i`: 1 without calls, else 1 more than the greatest height called. Takes no memory.
+    /// The height of body `i`: 1 without calls, else 1 more than the greatest height called; None where there is no such body.
+    /// Takes no memory.
     pub fn height(&self, i: u32) -> Option<u32>
         ensures { result ≡ slice_get (heights_of self.now) i }
     {

@@ -33,6 +33,7 @@ impl Operands {
         }
     }
 
+    /// The wires in order. Takes no memory.
     pub fn as_slice(&self) -> &[Wire]
         ensures { result.now ≡ self.now }
     {
@@ -45,6 +46,7 @@ impl Operands {
 pub enum Item {
     /// So many fresh wires of a class, at least one.
     Fresh(Class, u32),
+    /// A gate that is applied once.
     Gate(Gate),
     /// A call of the body with this number.
     Call(u32, Operands),

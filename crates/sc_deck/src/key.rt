@@ -54,16 +54,13 @@ impl Hash for Key {
 }
 
 impl Key {
+    /// A copy of the key. `Memory` where there is no room for it.
     pub fn try_clone(&self, alloc: Global) -> Result<Key, Memory>
         ensures { IfOk result (λ key. key ≡ self.now) }
     {
-        let name = Text::from_bytes(alloc, self.name.as_bytes())?;
-        match self.args.as_slice().to_vec(alloc) {
-            Ok(args) => Ok(Key {
-                name,
-                args: List::from_vec(args),
-            }),
-            Err(_) => Err(Memory),
-        }
+        Ok(Key {
+            name: self.name.try_clone(alloc)?,
+            args: self.args.try_clone(alloc)?,
+        })
     }
 }

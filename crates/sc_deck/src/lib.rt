@@ -4,9 +4,11 @@
 mod body;
 mod deck;
 mod entry;
+mod fold;
 mod item;
 mod key;
 pub mod laws;
+mod range;
 mod repeat;
 
 pub use body::Body;
@@ -14,6 +16,3 @@ pub use deck::Deck;
 pub use item::{Item, Operands};
 pub use key::{Arg, Key};
 pub use repeat::first_repeat;
-
-#[cfg(test)]
-mod tests;

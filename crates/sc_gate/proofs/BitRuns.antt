@@ -1,19 +1,17 @@
 -- Bit runs keep the length and the wires that no gate changes, and agree where the bits do, also under other names.
-use Rattle.std.proofs.Common.{◌≡◌, ◌≢◌, ◌↔◌, ℕ, zero, suc, ◌<◌, Bool, true, false, ◌&&◌, nat_eq, ◌⊎◌, inl, inr, Option, Some, None, List, [], ◌∷◌, ◌++◌, map, length, refl, sym, ap, ◌∙◌, subst, arith, eqb-true, eq-eqb, true≢false}
+use Rattle.std.proofs.Common.{◌≡◌, ◌≢◌, ℕ, ◌<◌, Bool, true, false, ◌&&◌, nat_eq, ◌⊎◌, inl, inr, Option, Some, None, List, [], ◌∷◌, ◌++◌, map, length, refl, sym, ap, ◌∙◌, subst, eqb-true, eq-eqb, true≢false}
 use Rattle.std.specs.Prelude.{option_to_list, IsSome}
-use Rattle.std.specs.List.{AllByRecursion}
 use Rattle.std.specs.Option.{option_map}
 use Rattle.std.proofs.lemmas.Bool.{cases_Bool}
-use Rattle.sc_base.specs.declared.names.Class.{Class}
 use Rattle.sc_base.specs.declared.names.Class.TheVariants.{Q}
 use Rattle.sc_base.specs.declared.names.GateName.TheVariants as name
 use Rattle.sc_gate.specs.declared.gate.Wire.{Wire}
 use Rattle.sc_gate.specs.declared.gate.Kind.{Kind}
 use Rattle.sc_gate.specs.declared.gate.Kind.TheVariants as kind
 use Rattle.sc_gate.specs.declared.gate.Gate.{Gate}
-use Rattle.sc_gate.specs.BitRuns.{target_by, target, NoneChanges, UseOnly, KeepsApart, Matches}
-use Rattle.sc_gate.specs.Gates.{name_of, class_of, operands, SuitsName, IsWellFormed, AreWellFormed}
-use Rattle.sc_gate.specs.Renaming.{rename_gate, KeepsClasses, IsOneToOneOn}
+use Rattle.sc_gate.specs.BitRuns.{target_by, NoneChanges, UseOnly, KeepsApart, Matches}
+use Rattle.sc_gate.specs.Gates.{name_of, class_of, operands, SuitsName, AreWellFormed}
+use Rattle.sc_gate.specs.Renaming.{rename_gate, KeepsClassesOn, IsOneToOneOn}
 use Rattle.sc_gate.specs.Runs.{xor, bit_at, xor_at, bit_step_by, bit_step, bit_run, number_or_zero}
 use Rattle.sc_gate.specs.Wires.{member}
 use Rattle.sc_gate.proofs.RenameLemmas.{rename_gate-same}
@@ -122,9 +120,9 @@ bit_run_agrees wires gates bits others formed inside m =
     (bit_run_matches (λ w. w) wires (λ v w mv mw. (λ e. e, λ e. e)) gates bits others formed inside m)
 
 -- a one-to-one renaming of qubits keeps them apart
-pub keeps_apart : (f : Wire → Wire) (wires : List Wire) → KeepsClasses f → IsOneToOneOn wires f → ((w : Wire) → member w wires ≡ true → class_of w ≡ Q) → KeepsApart f wires
+pub keeps_apart : (f : Wire → Wire) (wires : List Wire) → KeepsClassesOn wires f → IsOneToOneOn wires f → ((w : Wire) → member w wires ≡ true → class_of w ≡ Q) → KeepsApart f wires
 keeps_apart f wires keeps one qubits v w mv mw =
     let c : class_of v ≡ class_of w = qubits v mv ∙ sym (qubits w mw) in (
-      λ e. ap (λ (x : Wire). x.number) (one v w mv mw (same_parts (f v) (f w) (keeps v ∙ c ∙ sym (keeps w)) e)),
+      λ e. ap (λ (x : Wire). x.number) (one v w mv mw (same_parts (f v) (f w) (keeps v mv ∙ c ∙ sym (keeps w mw)) e)),
       λ e. ap (λ (x : Wire). (f x).number) (same_parts v w c e),
     )

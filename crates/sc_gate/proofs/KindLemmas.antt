@@ -1,5 +1,5 @@
 -- Kinds and their names.
-use Rattle.std.proofs.Common.{◌≡◌, Bool, Option, Some, None, inl, inr, refl, sym, subst}
+use Rattle.std.proofs.Common.{◌≡◌, Bool, Option, Some, None, inl, inr, refl, subst}
 use Rattle.sc_base.specs.declared.names.Fixed.{Fixed}
 use Rattle.sc_base.specs.declared.names.GateName.{GateName}
 use Rattle.sc_base.specs.declared.names.GateName.TheVariants as name

@@ -1,6 +1,6 @@
 -- Lines from their parts.
-use Rattle.std.proofs.Common.{◌≡◌, ℕ, Option, List, [], ◌∷◌, ◌++◌, refl, sym, ap, ◌∙◌, append_assoc, ◌+◌, ◌<◌, length, get_or, take, drop, add-one, drop-cons}
-use Rattle.std.proofs.lemmas.List.{append-nil, map-append, take-append-drop}
+use Rattle.std.proofs.Common.{◌≡◌, ℕ, Option, List, [], ◌∷◌, ◌++◌, refl, sym, ap, ◌∙◌, append_assoc}
+use Rattle.std.proofs.lemmas.List.{append-nil, map-append}
 use Rattle.std.proofs.lemmas.Grind.{flat_map-append}
 use Rattle.std.specs.Prelude.{map, option_to_list, codes}
 use Rattle.std.specs.List.{join_with_byte}
@@ -8,7 +8,7 @@ use Rattle.sc_gate.specs.declared.gate.Gate.{Gate}
 use Rattle.sc_gate.specs.declared.gate.Wire.{Wire}
 use Rattle.sc_base.specs.GateNames.{gate_text}
 use Rattle.sc_gate.specs.Gates.{name_of}
-use Rattle.sc_gate.specs.Lines.{wire_text, value_texts, after_commas, gate_line, gate_lines}
+use Rattle.sc_gate.specs.Lines.{wire_text, value_texts, after_commas, gate_line}
 
 -- the first text, and then the others with commas before them
 pub joined_by_commas : (text : List ℕ) (texts : List (List ℕ)) → join_with_byte 44 (text ∷ texts) ≡ text ++ after_commas texts
@@ -35,13 +35,3 @@ pub line_in_parts : (gate : Gate) →
 line_in_parts gate =
     rw (joined_by_commas (wire_text gate.a) (map wire_text (option_to_list gate.b ++ option_to_list gate.c) ++ value_texts gate.kind), rest_in_parts gate.b gate.c (value_texts gate.kind))
     (simp append_assoc)
-
--- the lines so far, the line of a gate, and those of the others
-pub gate_lines-at : (gates : List Gate) (i : ℕ) (d : Gate) → i < length gates →
-    gate_lines gates ≡ gate_lines (take i gates) ++ gate_line (get_or gates i d) ++ gate_lines (drop (i + 1) gates)
-gate_lines-at gates i d within =
-    let here : drop i gates ≡ get_or gates i d ∷ drop (i + 1) gates = rw (add-one, drop-cons gates i d within) refl in
-    ap gate_lines (sym (take-append-drop i gates))
-    ∙ flat_map-append gate_line (take i gates) (drop i gates)
-    ∙ ap (λ rest. gate_lines (take i gates) ++ gate_lines rest) here
-    ∙ sym (append_assoc (gate_lines (take i gates)) (gate_line (get_or gates i d)) (gate_lines (drop (i + 1) gates)))

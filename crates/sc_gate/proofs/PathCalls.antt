@@ -1,13 +1,13 @@
 -- The laws of a list of gates and then a callee's, of fresh wires, and of chains of weight 0.
-use Rattle.std.proofs.Common.{◌≡◌, ℕ, ◌+◌, ◌<◌, ◌≤◌, List, [], ◌∷◌, ◌++◌, true, false, Option, Some, None, ◌⊎◌, inl, inr, refl, sym, ap, ◌∙◌, subst, arith}
+use Rattle.std.proofs.Common.{◌≡◌, ℕ, ◌+◌, ◌<◌, List, [], ◌∷◌, ◌++◌, true, false, Option, Some, None, ◌⊎◌, inl, inr, refl, sym, ap, ◌∙◌, subst, arith}
 use Rattle.std.specs.Prelude.{max}
 use Rattle.sc_gate.specs.declared.gate.Wire.{Wire}
-use Rattle.sc_gate.specs.Chains.{Timed, Greatest, Reached, more, plus, when, over, best}
+use Rattle.sc_gate.specs.Chains.{Timed, Reached, more, plus, when, over, best}
 use Rattle.sc_gate.specs.Paths.{may_start, star, WiresAre, TakeTime, MeetOnlyAt, IsAt, anywhere, call_adds}
 use Rattle.sc_gate.specs.Wires.{member}
 use Rattle.sc_gate.proofs.Greatest.{greatest_none, greatest_either, SumOf, greatest_sum, greatest_same, greatest_when, AtSome, greatest_over, greatest_unique}
 use Rattle.sc_gate.proofs.Weighs.{Weighs, greatest_weighs, at_some_from, at_some_wire}
-use Rattle.sc_gate.proofs.Joined.{Joined, Covers, split, in_first, in_second, crossing}
+use Rattle.sc_gate.proofs.Joined.{Joined, split, in_first, in_second, crossing}
 use Rattle.sc_gate.proofs.OneMoreGate.{Stars, greatest_stars}
 use Rattle.sc_gate.proofs.WireLemmas.{same_wire-true, same_wire-refl}
 

@@ -1,14 +1,13 @@
 -- What renaming keeps of gates.
-use Rattle.std.proofs.Common.{◌≡◌, ℕ, Bool, true, List, [], ◌∷◌, ◌++◌, map, Option, Some, None, refl, sym, ap, ◌∙◌, subst, true≢false}
+use Rattle.std.proofs.Common.{◌≡◌, ℕ, true, List, [], ◌∷◌, ◌++◌, map, Option, Some, None, refl, sym, ap, ◌∙◌, subst, true≢false}
 use Rattle.std.specs.Prelude.{option_to_list, IsSome}
 use Rattle.std.specs.Option.{option_map}
 use Rattle.std.proofs.lemmas.List.{map-append}
-use Rattle.sc_base.specs.declared.names.Class.{Class}
 use Rattle.sc_gate.specs.declared.gate.Wire.{Wire}
 use Rattle.sc_gate.specs.declared.gate.Gate.{Gate}
-use Rattle.sc_gate.specs.Chains.{Timed, timed}
-use Rattle.sc_gate.specs.Gates.{name_of, class_of, operands, SuitsName, IsNew, AreDistinct, IsWellFormed, AreWellFormed}
-use Rattle.sc_gate.specs.Renaming.{rename_gate, rename_timed, KeepsClasses, IsOneToOneOn}
+use Rattle.sc_gate.specs.Chains.{timed}
+use Rattle.sc_gate.specs.Gates.{name_of, class_of, operands, SuitsName, IsNew, AreDistinct, IsWellFormed}
+use Rattle.sc_gate.specs.Renaming.{rename_gate, rename_timed, KeepsClasses, KeepsClassesOn, IsOneToOneOn}
 use Rattle.sc_gate.specs.Wires.{member}
 use Rattle.sc_gate.proofs.WireLemmas.{member_here, member_later}
 
@@ -71,10 +70,20 @@ some_renamed f None None order h = h
 some_renamed f None (Some c) order h = absurd (true≢false (sym (order refl)))
 some_renamed f (Some b) c order h = refl
 
--- a well-formed gate stays one
-pub well_formed-rename : (f : Wire → Wire) (g : Gate) → KeepsClasses f → IsOneToOneOn (operands g) f → IsWellFormed g → IsWellFormed (rename_gate f g)
-well_formed-rename f g keeps one formed = record {
-  suits = subst (SuitsName (name_of g.kind)) (sym (ap (map class_of) (operands-rename f g) ∙ classes-rename f keeps (operands g))) formed.suits;
+classes-rename_on : (f : Wire → Wire) (ws : List Wire) → KeepsClassesOn ws f → map class_of (map f ws) ≡ map class_of ws
+classes-rename_on f [] keeps = refl
+classes-rename_on f (w ∷ ws) keeps =
+    let here = keeps w (member_here w ws) in
+    let rest = classes-rename_on f ws (λ v h. keeps v (member_later w v ws h)) in
+    λ i. here i ∷ rest i
+
+-- a well-formed gate stays one where its operands keep their classes and stay apart
+pub well_formed-rename_on : (f : Wire → Wire) (g : Gate) → KeepsClassesOn (operands g) f → IsOneToOneOn (operands g) f → IsWellFormed g → IsWellFormed (rename_gate f g)
+well_formed-rename_on f g keeps one formed = record {
+  suits = subst (SuitsName (name_of g.kind)) (sym (ap (map class_of) (operands-rename f g) ∙ classes-rename_on f (operands g) keeps)) formed.suits;
   distinct = subst AreDistinct (sym (operands-rename f g)) (distinct-rename f (operands g) one formed.distinct);
   in_order = some_renamed f g.b g.c formed.in_order;
 }
+
+pub well_formed-rename : (f : Wire → Wire) (g : Gate) → KeepsClasses f → IsOneToOneOn (operands g) f → IsWellFormed g → IsWellFormed (rename_gate f g)
+well_formed-rename f g keeps one formed = well_formed-rename_on f g (λ w h. keeps w) one formed

@@ -1,10 +1,11 @@
 -- Tests on kinds, optional wires and gates tell that they are equal.
-use Rattle.std.proofs.Common.{◌≡◌, ℕ, Bool, true, false, ◌&&◌, Option, Some, None, List, [], ◌∷◌, slice_get, nat_eq, refl, sym, ap, ◌∙◌, subst, true≢false, eqb-true, eq-eqb, ◌↔◌, IsTrue}
+use Rattle.std.proofs.Common.{◌≡◌, Bool, true, false, ◌&&◌, Option, Some, None, nat_eq, refl, sym, ap, ◌∙◌, subst, true≢false, eqb-true, eq-eqb, ◌↔◌, IsTrue}
 use Rattle.std.specs.Prelude.{ℤ, pos}
 use Rattle.std.specs.Ordering.{int_eq}
 use Rattle.std.proofs.lemmas.Bool.Decides.{Decides-int_eq}
 use Rattle.sc_base.specs.declared.names.GateName.{GateName}
 use Rattle.sc_base.specs.declared.names.GateName.TheVariants as name
+use Rattle.sc_base.proofs.GateNameLemmas.{place_of-apart}
 use Rattle.sc_gate.specs.declared.gate.Wire.{Wire}
 use Rattle.sc_gate.specs.declared.gate.Kind.{Kind}
 use Rattle.sc_gate.specs.declared.gate.Kind.TheVariants as kind
@@ -17,33 +18,6 @@ use Rattle.sc_gate.specs.SameGates.{value_of, same_kind, same_option, same_gate}
 both_true : (s t : Bool) → (s && t) ≡ true → (s ≡ true) × (t ≡ true)
 both_true true t h = (refl, h)
 both_true false t h = absurd (true≢false (sym h))
-
-unfoldable pub all_names : List GateName
-all_names = name.X ∷ name.Y ∷ name.Z ∷ name.H ∷ name.S ∷ name.T ∷ name.Sdag ∷ name.Tdag ∷ name.Cnot ∷ name.Toffoli ∷ name.Fredkin ∷ name.Rx ∷ name.Ry ∷ name.Rz ∷ name.PrepX ∷ name.PrepZ ∷ name.MeasX ∷ name.MeasZ ∷ []
-
-named : (n : GateName) → slice_get all_names (place_of n) ≡ Some n
-unfolding all_names
-named name.X = refl
-named name.Y = refl
-named name.Z = refl
-named name.H = refl
-named name.S = refl
-named name.T = refl
-named name.Sdag = refl
-named name.Tdag = refl
-named name.Cnot = refl
-named name.Toffoli = refl
-named name.Fredkin = refl
-named name.Rx = refl
-named name.Ry = refl
-named name.Rz = refl
-named name.PrepX = refl
-named name.PrepZ = refl
-named name.MeasX = refl
-named name.MeasZ = refl
-
-pub name_from_place : (n m : GateName) → place_of n ≡ place_of m → n ≡ m
-name_from_place n m e = let a = named n in let b = named m in let c = ap (slice_get all_names) e in cc
 
 -- the kind of a name with a value
 unfoldable pub kind_of : GateName → ℤ → Kind
@@ -92,7 +66,7 @@ kind_again kind.MeasZ = refl
 pub same_kind-true : (k l : Kind) → same_kind k l ≡ true → k ≡ l
 same_kind-true k l h =
     let p = both_true (nat_eq (place_of (name_of k)) (place_of (name_of l))) (int_eq (value_of k) (value_of l)) h in
-    let names = name_from_place (name_of k) (name_of l) (eqb-true (place_of (name_of k)) (place_of (name_of l)) p.0) in
+    let names = place_of-apart (name_of k) (name_of l) (eqb-true (place_of (name_of k)) (place_of (name_of l)) p.0) in
     let values = (Decides-int_eq (value_of k) (value_of l)).0 p.1 in
     sym (kind_again k) ∙ (λ i. kind_of (names i) (values i)) ∙ kind_again l
 

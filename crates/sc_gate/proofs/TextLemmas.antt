@@ -1,20 +1,20 @@
 -- Lines of gates and flat texts are read one way, also with text behind.
-use Rattle.std.proofs.Common.{◌≡◌, ◌≢◌, ℕ, zero, suc, ◌+◌, ◌/◌, ◌%◌, ◌<◌, ◌≤◌, ◌^◌, Bool, true, false, not, ◌&&◌, nat_eq, nat_le, ℤ, pos, negsuc, FitsSigned, w64, ◌⊎◌, inl, inr, Option, Some, None, List, [], ◌∷◌, ◌++◌, map, length, replicate, decimal, slice_get, refl, sym, ap, ◌∙◌, subst, arith, append_assoc, append-nil, length-append, eqb-true, true≢false, if◌then◌else◌}
-use Rattle.std.specs.Prelude.{codes, flat_map, option_to_list, unsigned_abs}
+use Rattle.std.proofs.Common.{◌≡◌, ◌≢◌, ℕ, suc, ◌+◌, ◌<◌, ◌≤◌, ◌^◌, Bool, true, false, not, ◌&&◌, nat_eq, nat_le, ℤ, pos, negsuc, FitsSigned, w64, Some, List, [], ◌∷◌, ◌++◌, map, length, decimal, refl, sym, ap, ◌∙◌, subst, arith, append_assoc, length-append, eqb-true, true≢false}
+use Rattle.std.specs.Prelude.{codes, option_to_list, unsigned_abs}
 use Rattle.std.specs.List.{AllByRecursion, join_with_byte}
 use Rattle.std.specs.Ordering.{int_eq}
-use Rattle.std.specs.Cmp.Lexicographic.{pointwise}
 use Rattle.std.specs.Str.Parse.{AllDigits}
 use Rattle.std.proofs.lemmas.Bool.{leb-true}
 use Rattle.std.proofs.lemmas.List.Elements.{All-from_recursion}
 use Rattle.std.proofs.lemmas.Str.Parse.{digit_from_value}
-use Rattle.sc_base.specs.Decimals.{IsDecimal, units_text, fixed_text}
+use Rattle.sc_base.specs.Decimals.{units_text, fixed_text}
 use Rattle.sc_base.specs.GateNames.{gate_text}
 use Rattle.sc_base.specs.declared.names.Class.{Class}
 use Rattle.sc_base.specs.declared.names.Class.TheVariants.{Q, C}
 use Rattle.sc_base.specs.declared.names.GateName.{GateName}
 use Rattle.sc_base.specs.declared.names.GateName.TheVariants as name
 use Rattle.sc_base.proofs.DecimalLemmas.{AllDigits-parts, units_text-IsDecimal, fixed_text_injective}
+use Rattle.sc_base.proofs.GateNameLemmas.{gate_text-apart}
 use Rattle.sc_base.specs.Lines.{IsLine}
 use Rattle.sc_base.specs.Numerals.{EndsNumber}
 use Rattle.sc_base.proofs.NumeralLemmas.{head_is, tail_is, append_cancel, decimal_digits, number_unique, number_line_one_way}
@@ -22,14 +22,14 @@ use Rattle.sc_gate.specs.declared.gate.Wire.{Wire}
 use Rattle.sc_gate.specs.declared.gate.Kind.{Kind}
 use Rattle.sc_gate.specs.declared.gate.Kind.TheVariants as kind
 use Rattle.sc_gate.specs.declared.gate.Gate.{Gate}
-use Rattle.sc_gate.specs.Gates.{name_of, place_of, operands, IsWellFormed}
+use Rattle.sc_gate.specs.Gates.{name_of, operands}
 use Rattle.sc_gate.specs.Kinds.{gate_on}
 use Rattle.sc_gate.specs.Lines.{class_letter, wire_text, start_text, value_texts, after_commas, gate_line, number_line, flat_header, gate_lines, flat_text}
 use Rattle.sc_gate.specs.SameGates.{value_of}
 use Rattle.sc_gate.specs.Texts.{IsNumbered, HasLine, HaveLines, AreCounts}
 use Rattle.sc_gate.proofs.LineLemmas.{joined_by_commas}
 use Rattle.sc_gate.proofs.MadeGates.{gate_on-made}
-use Rattle.sc_gate.proofs.SameGates.{all_names, name_from_place, kind_of, kind_again}
+use Rattle.sc_gate.proofs.SameGates.{kind_of, kind_again}
 use Rattle.sc_gate.proofs.WireLemmas.{same_parts}
 
 -- PARTS UP TO A BYTE OF ANOTHER KIND
@@ -167,36 +167,6 @@ name_letters name.PrepZ = (refl, (refl, (refl, (refl, (refl, tt)))))
 name_letters name.MeasX = (refl, (refl, (refl, (refl, (refl, tt)))))
 name_letters name.MeasZ = (refl, (refl, (refl, (refl, (refl, tt)))))
 
--- the place of the name that is spelled so, among these from a place on
-abbrev place_in : List ℕ → List GateName → ℕ → ℕ
-place_in text [] i = i
-place_in text (n ∷ names) i = if pointwise nat_eq (gate_text n) text then i else place_in text names (suc i)
-
-name_found : (n : GateName) → place_in (gate_text n) all_names 0 ≡ place_of n
-unfolding all_names
-name_found name.X = refl
-name_found name.Y = refl
-name_found name.Z = refl
-name_found name.H = refl
-name_found name.S = refl
-name_found name.T = refl
-name_found name.Sdag = refl
-name_found name.Tdag = refl
-name_found name.Cnot = refl
-name_found name.Toffoli = refl
-name_found name.Fredkin = refl
-name_found name.Rx = refl
-name_found name.Ry = refl
-name_found name.Rz = refl
-name_found name.PrepX = refl
-name_found name.PrepZ = refl
-name_found name.MeasX = refl
-name_found name.MeasZ = refl
-
--- no two names are spelled alike
-pub gate_text_injective : (n m : GateName) → gate_text n ≡ gate_text m → n ≡ m
-gate_text_injective n m e = name_from_place n m (sym (name_found n) ∙ (ap (λ (t : List ℕ). place_in t all_names 0) e ∙ name_found m))
-
 -- VALUES
 -- the texts of a value behind a name
 texts_by : GateName → ℤ → List (List ℕ)
@@ -332,7 +302,7 @@ line_one_way g h x y p q e =
     sym (line_text g x) ∙ (e ∙ line_text h y) in
     let named = cut is_letter (gate_text (name_of g.kind)) (gate_text (name_of h.kind)) (32 ∷ (join_with_byte 44 (parts_of g) ++ 10 ∷ x)) (32 ∷ (join_with_byte 44 (parts_of h) ++ 10 ∷ y))
     (name_letters (name_of g.kind)) refl (name_letters (name_of h.kind)) refl whole in
-    let n = gate_text_injective (name_of g.kind) (name_of h.kind) named.0 in
+    let n = gate_text-apart (name_of g.kind) (name_of h.kind) named.0 in
     let behind = tail_is 32 32 _ _ named.1 in
     let parts = commas_one_way (parts_of g) (parts_of h) x y (gate_parts g p) (gate_parts h q)
     (sym (parts_commas g x) ∙ (ap (λ (t : List ℕ). 44 ∷ t) behind ∙ parts_commas h y)) in

@@ -4,6 +4,7 @@ use Rattle.sc_base.specs.declared.names.Class.{Class}
 use Rattle.sc_base.specs.declared.names.Class.TheVariants.{Q, C}
 use Rattle.sc_base.specs.declared.names.GateName.{GateName}
 use Rattle.sc_base.specs.declared.names.GateName.TheVariants as name
+pub use Rattle.sc_base.specs.GateNames.{place_of}
 use Rattle.sc_gate.specs.declared.gate.Wire.{Wire}
 use Rattle.sc_gate.specs.declared.gate.Kind.{Kind}
 use Rattle.sc_gate.specs.declared.gate.Kind.TheVariants as kind
@@ -29,27 +30,6 @@ name_of (kind.PrepX start) = name.PrepX
 name_of (kind.PrepZ start) = name.PrepZ
 name_of kind.MeasX = name.MeasX
 name_of kind.MeasZ = name.MeasZ
-
--- the place of a name in the order of names, from 0
-abbrev pub place_of : GateName → ℕ
-place_of name.X = 0
-place_of name.Y = 1
-place_of name.Z = 2
-place_of name.H = 3
-place_of name.S = 4
-place_of name.T = 5
-place_of name.Sdag = 6
-place_of name.Tdag = 7
-place_of name.Cnot = 8
-place_of name.Toffoli = 9
-place_of name.Fredkin = 10
-place_of name.Rx = 11
-place_of name.Ry = 12
-place_of name.Rz = 13
-place_of name.PrepX = 14
-place_of name.PrepZ = 15
-place_of name.MeasX = 16
-place_of name.MeasZ = 17
 
 -- how many qubits a gate of this name has
 abbrev pub qubits_of : GateName → ℕ

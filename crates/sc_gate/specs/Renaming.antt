@@ -1,10 +1,10 @@
 -- Gates with their wires renamed.
-use Rattle.std.specs.Prelude.{◌≡◌, Bool, true, List, map}
+use Rattle.std.specs.Prelude.{◌≡◌, true, List, map}
 use Rattle.std.specs.Option.{option_map}
 use Rattle.sc_gate.specs.declared.gate.Wire.{Wire}
 use Rattle.sc_gate.specs.declared.gate.Gate.{Gate}
 use Rattle.sc_gate.specs.Chains.{Timed}
-use Rattle.sc_gate.specs.Gates.{class_of, operands}
+use Rattle.sc_gate.specs.Gates.{class_of}
 use Rattle.sc_gate.specs.Wires.{member}
 
 -- a gate with its wires renamed
@@ -17,6 +17,10 @@ rename_timed f g = record { weight = g.weight; wires = map f g.wires }
 
 abbrev pub KeepsClasses : (Wire → Wire) → Type 0
 KeepsClasses f = (w : Wire) → class_of (f w) ≡ class_of w
+
+-- each of these wires keeps its class
+abbrev pub KeepsClassesOn : List Wire → (Wire → Wire) → Type 0
+KeepsClassesOn ws f = (w : Wire) → member w ws ≡ true → class_of (f w) ≡ class_of w
 
 -- two of these wires with one new name are one wire
 abbrev pub IsOneToOneOn : List Wire → (Wire → Wire) → Type 0

@@ -5,13 +5,13 @@ ghost use Rattle.sc_base.specs.declared.names.Fixed.{Fixed};
 ghost use Rattle.sc_base.specs.declared.names.GateName.{GateName};
 ghost use Rattle.sc_gate.specs.declared.gate.Kind.{Kind};
 ghost use Rattle.sc_gate.specs.declared.gate.Gate.{Gate};
-ghost use Rattle.sc_gate.specs.Gates.{name_of, qubits_of, class_of, operands, SuitsName, AreDistinct, IsWellFormed, AreWellFormed};
-ghost use Rattle.sc_base.specs.declared.names.Class.TheVariants.{Q};
+ghost use Rattle.sc_gate.specs.Gates.{name_of, qubits_of, is_measurement, class_of, operands, SuitsName, AreDistinct, IsWellFormed, AreWellFormed};
+ghost use Rattle.sc_base.specs.declared.names.Class.TheVariants.{Q, C};
 ghost use Rattle.std.specs.List.{AllByRecursion};
 ghost use Rattle.std.specs.Option.{option_map};
 ghost use Rattle.sc_gate.specs.Paths.{star, may_start, WiresAre, TakeTime, MeetOnlyAt, IsAt, call_adds, repeated_gates};
 ghost use Rattle.sc_gate.specs.Kinds.{on_one, on_two, on_three, gate_on, IsMade, plain_kind, rotation_kind, preparation_kind, IsNamed};
-ghost use Rattle.sc_gate.specs.Renaming.{rename_gate, rename_timed, KeepsClasses, IsOneToOneOn, IsOneToOne};
+ghost use Rattle.sc_gate.specs.Renaming.{rename_gate, rename_timed, KeepsClassesOn, IsOneToOneOn, IsOneToOne};
 ghost use Rattle.sc_gate.specs.SameGates.{same_kind, same_option, same_gate};
 ghost use Rattle.sc_gate.specs.Heights.{IsHeight, IsThrough, tail_of, height_at, through_at};
 ghost use Rattle.sc_base.specs.Lines.{IsLine};
@@ -105,11 +105,11 @@ pub fn kinds_have_names()
     ensures all { (k : Kind) → IsNamed k }
 {}
 
-/// Renaming a gate renames its operands; a renaming that keeps classes and is one to one on the operands keeps a gate well formed.
+/// Renaming a gate renames its operands; a renaming that keeps their classes and is one to one on them keeps a gate well formed.
 pub fn renaming_keeps_gates()
     ensures operands { (f : Wire → Wire) (g : Gate) → operands (rename_gate f g) ≡ map f (operands g) }
     ensures twice { (f h : Wire → Wire) (g : Gate) → rename_gate f (rename_gate h g) ≡ rename_gate (λ w. f (h w)) g }
-    ensures well_formed { (f : Wire → Wire) (g : Gate) → KeepsClasses f → IsOneToOneOn (operands g) f →
+    ensures well_formed { (f : Wire → Wire) (g : Gate) → KeepsClassesOn (operands g) f → IsOneToOneOn (operands g) f →
         IsWellFormed g → IsWellFormed (rename_gate f g) }
 {}
 
@@ -123,6 +123,8 @@ pub fn suited_operands_make_gates()
         a ≢ b → a ≢ c → b ≢ c → IsWellFormed (on_three k a b c) }
     ensures qubits { (n : GateName) (wires : List Wire) → length wires ≡ qubits_of n →
         AllByRecursion (λ w. class_of w ≡ Q) wires → SuitsName n (map class_of wires) }
+    ensures measured { (n : GateName) (a b : Wire) → is_measurement n ≡ true → class_of a ≡ Q → class_of b ≡ C →
+        SuitsName n (class_of a ∷ class_of b ∷ []) }
     ensures made { (k : Kind) (wires : List Wire) → SuitsName (name_of k) (map class_of wires) → AreDistinct wires → IsMade k wires }
     ensures parts { (k : Kind) (wires : List Wire) (g : Gate) → gate_on k wires ≡ Some g → (g.kind ≡ k) × (operands g ≡ wires) }
     ensures all { (g : Gate) → IsWellFormed g → gate_on g.kind (operands g) ≡ Some g }
@@ -176,11 +178,14 @@ pub fn bit_runs_keep()
         bit_at (bit_run gates bits) w ≡ bit_at bits w }
 {}
 
-/// Bits that agree on the wires in use agree after a run, also where the wires have other names in the one than in the other.
+/// Bits that agree on the wires in use agree after a run, also where the wires have other names in the one than in the other; a
+/// one-to-one renaming of qubits keeps them apart.
 pub fn bit_runs_agree()
     ensures renamed { (f : Wire → Wire) (wires : List Wire) → KeepsApart f wires → (gates : List Gate) (bits others : List Bool) →
         AreWellFormed gates → UseOnly wires gates → Matches f wires bits others →
         Matches f wires (bit_run gates bits) (bit_run (map (rename_gate f) gates) others) }
+    ensures apart { (f : Wire → Wire) (wires : List Wire) → KeepsClassesOn wires f → IsOneToOneOn wires f →
+        ((w : Wire) → member w wires ≡ true → class_of w ≡ Q) → KeepsApart f wires }
     ensures same { (wires : List Wire) (gates : List Gate) (bits others : List Bool) → AreWellFormed gates →
         UseOnly wires gates → Matches (λ w. w) wires bits others →
         Matches (λ w. w) wires (bit_run gates bits) (bit_run gates others) }

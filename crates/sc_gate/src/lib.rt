@@ -13,7 +13,7 @@ pub use flat::{write_flat, write_header, write_number_line};
 pub use gate::{
     Gate, Kind, Wire, arity, cancels, depends, same_gate, same_kind, well_formed, wire_at,
 };
-pub use line::{gate_name, push_wire, write_gate};
+pub use line::{push_wire, write_gate};
 pub use sc_base::LineBuffer as Line;
 pub use slow::slow_critical;
 pub use times::Times;

@@ -1,12 +1,11 @@
 //! Gate lines, composed in a small buffer.
 ghost use Rattle.std.specs.Prelude.{◌≡◌, ◌+◌, ◌≤◌, false, ◌++◌, length, map, option_to_list, OnOk};
 ghost use Rattle.sc_base.specs.Causes.{HasCause};
-ghost use Rattle.sc_base.specs.GateNames.{gate_text};
 ghost use Rattle.sc_base.specs.Output.{Wrote, WrotePrefix};
 ghost use Rattle.sc_gate.specs.Lines.{wire_text, value_texts, after_commas, gate_line};
 
 use crate::{Gate, Kind, Wire};
-use sc_base::{Class, GateName, LineBuffer, Sink, WriteFault, write_all};
+use sc_base::{Class, LineBuffer, Sink, WriteFault, write_all};
 
 /// Appends the text of a wire: the letter of its class, and its number. It is at most 11 bytes long, and there is room for it.
 pub fn push_wire(line: &mut LineBuffer, wire: Wire)
@@ -55,7 +54,7 @@ fn line_of(gate: &Gate) -> LineBuffer
     ensures { result ≡ gate_line gate.now }
 {
     let mut line = LineBuffer::new();
-    line.push(gate_name(gate.kind.name()).as_bytes());
+    line.push(gate.kind.name().text().as_bytes());
     line.push(b" ");
     push_wire(&mut line, gate.a);
     push_next(&mut line, gate.b);
@@ -75,31 +74,4 @@ pub fn write_gate<O: Sink>(gate: &Gate, out: &mut O) -> Result<(), WriteFault>
 {
     let line = line_of(gate);
     write_all(out, line.as_bytes())
-}
-
-/// The name of a gate as it is spelled in sources and texts.
-pub fn gate_name(name: GateName) -> &'static str
-    ensures text { result.now ≡ gate_text name }
-    ensures short { length result.now ≤ 7 }
-{
-    match name {
-        GateName::X => "X",
-        GateName::Y => "Y",
-        GateName::Z => "Z",
-        GateName::H => "H",
-        GateName::S => "S",
-        GateName::T => "T",
-        GateName::Sdag => "Sdag",
-        GateName::Tdag => "Tdag",
-        GateName::Cnot => "CNOT",
-        GateName::Toffoli => "Toffoli",
-        GateName::Fredkin => "Fredkin",
-        GateName::Rx => "Rx",
-        GateName::Ry => "Ry",
-        GateName::Rz => "Rz",
-        GateName::PrepX => "PrepX",
-        GateName::PrepZ => "PrepZ",
-        GateName::MeasX => "MeasX",
-        GateName::MeasZ => "MeasZ",
-    }
 }

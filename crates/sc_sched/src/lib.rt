@@ -19,8 +19,6 @@ mod round;
 mod scheduling;
 mod slots;
 mod taking;
-#[cfg(test)]
-mod tests;
 mod text;
 mod tray;
 mod waiting;

@@ -12,9 +12,6 @@ use sc_base::{List, Memory};
 use sc_gate::{Gate, Times};
 use std::alloc::Global;
 
-#[cfg(test)]
-mod tests;
-
 /// The most gates that one schedule may have.
 const MAX_GATES: usize = 4_194_304;
 

@@ -3,9 +3,10 @@ use Rattle.std.proofs.Common.{◌≡◌, ◌≢◌, ℕ, ◌+◌, ◌-◌, ◌*�
 use Rattle.sc_gate.specs.declared.gate.Wire.{Wire}
 use Rattle.sc_gate.specs.declared.gate.Kind.TheVariants.{T, Tdag}
 use Rattle.sc_gate.specs.declared.gate.Gate.{Gate}
+use Rattle.sc_gate.specs.Kinds.{on_one}
 use Rattle.sc_gate.specs.Runs.{xor, bit, bit_at, xor_at, Phased, phase_step, phase_run_from}
 use Rattle.sc_gate.proofs.RunLemmas.{xor_at_both, xor_at_false, bit_at_here, bit_at_other, wires_differ}
-use Rattle.sc_tables.specs.Tables.{alone, cnot, ToffoliPhase}
+use Rattle.sc_tables.specs.Tables.{cnot, ToffoliPhase}
 
 -- the bits with v taken into wire w, and a phase
 unfoldable mixed : List Bool → Wire → Bool → ℕ → Phased
@@ -23,15 +24,15 @@ cnot_in bits x w v p h =
     ap (λ (t : Bool). record { bits = xor_at w.number t (xor_at w.number v bits); phase = p }) (bit_at_other w.number x.number v bits h)
     ∙ ap (λ (l : List Bool). record { bits = l; phase = p }) (xor_at_both w.number v (bit_at bits x.number) bits)
 
-t_here : (bits : List Bool) (w : Wire) (v : Bool) (p : ℕ) → w.number < length bits → phase_step (alone T w) (mixed bits w v p) ≡ mixed bits w v (plus_bit p (xor (bit_at bits w.number) v))
+t_here : (bits : List Bool) (w : Wire) (v : Bool) (p : ℕ) → w.number < length bits → phase_step (on_one T w) (mixed bits w v p) ≡ mixed bits w v (plus_bit p (xor (bit_at bits w.number) v))
 unfolding mixed
 t_here bits w v p h = ap (λ (t : Bool). record { bits = xor_at w.number v bits; phase = plus_bit p t }) (bit_at_here w.number v bits h)
 
-tdag_here : (bits : List Bool) (w : Wire) (v : Bool) (p : ℕ) → w.number < length bits → phase_step (alone Tdag w) (mixed bits w v p) ≡ mixed bits w v (less_bit p (xor (bit_at bits w.number) v))
+tdag_here : (bits : List Bool) (w : Wire) (v : Bool) (p : ℕ) → w.number < length bits → phase_step (on_one Tdag w) (mixed bits w v p) ≡ mixed bits w v (less_bit p (xor (bit_at bits w.number) v))
 unfolding mixed
 tdag_here bits w v p h = ap (λ (t : Bool). record { bits = xor_at w.number v bits; phase = less_bit p t }) (bit_at_here w.number v bits h)
 
-t_other : (bits : List Bool) (x w : Wire) (v : Bool) (p : ℕ) → x.number ≢ w.number → phase_step (alone T x) (mixed bits w v p) ≡ mixed bits w v (plus_bit p (bit_at bits x.number))
+t_other : (bits : List Bool) (x w : Wire) (v : Bool) (p : ℕ) → x.number ≢ w.number → phase_step (on_one T x) (mixed bits w v p) ≡ mixed bits w v (plus_bit p (bit_at bits x.number))
 unfolding mixed
 t_other bits x w v p h = ap (λ (t : Bool). record { bits = xor_at w.number v bits; phase = plus_bit p t }) (bit_at_other w.number x.number v bits h)
 
@@ -42,11 +43,11 @@ plain bits w p = ap (λ (l : List Bool). record { bits = l; phase = p }) (sym (x
 
 -- the gates with the target c
 abbrev onto_c : Wire → Wire → Wire → List Gate
-onto_c a b c = cnot b c ∷ alone Tdag c ∷ cnot a c ∷ alone T c ∷ cnot b c ∷ alone Tdag c ∷ cnot a c ∷ []
+onto_c a b c = cnot b c ∷ on_one Tdag c ∷ cnot a c ∷ on_one T c ∷ cnot b c ∷ on_one Tdag c ∷ cnot a c ∷ []
 
 -- the gates with the target b
 abbrev onto_b : Wire → Wire → Wire → List Gate
-onto_b a b c = cnot a b ∷ alone T a ∷ alone Tdag b ∷ cnot a b ∷ []
+onto_b a b c = cnot a b ∷ on_one T a ∷ on_one Tdag b ∷ cnot a b ∷ []
 
 -- what c has taken in, and the phase, after its gates
 abbrev taken_c : Bool → Bool → Bool
@@ -62,11 +63,11 @@ run_c bits a b c p h k l =
     let x : Bool = bit_at bits a.number in
     let y : Bool = bit_at bits b.number in
     let z : Bool = bit_at bits c.number in
-    ap (phase_run_from (alone Tdag c ∷ cnot a c ∷ alone T c ∷ cnot b c ∷ alone Tdag c ∷ cnot a c ∷ [])) (cnot_in bits b c false p k)
-    ∙ ap (phase_run_from (cnot a c ∷ alone T c ∷ cnot b c ∷ alone Tdag c ∷ cnot a c ∷ [])) (tdag_here bits c (xor false y) p l)
-    ∙ ap (phase_run_from (alone T c ∷ cnot b c ∷ alone Tdag c ∷ cnot a c ∷ [])) (cnot_in bits a c (xor false y) (less_bit p (xor z (xor false y))) h)
-    ∙ ap (phase_run_from (cnot b c ∷ alone Tdag c ∷ cnot a c ∷ [])) (t_here bits c (xor (xor false y) x) (less_bit p (xor z (xor false y))) l)
-    ∙ ap (phase_run_from (alone Tdag c ∷ cnot a c ∷ [])) (cnot_in bits b c (xor (xor false y) x) (plus_bit (less_bit p (xor z (xor false y))) (xor z (xor (xor false y) x))) k)
+    ap (phase_run_from (on_one Tdag c ∷ cnot a c ∷ on_one T c ∷ cnot b c ∷ on_one Tdag c ∷ cnot a c ∷ [])) (cnot_in bits b c false p k)
+    ∙ ap (phase_run_from (cnot a c ∷ on_one T c ∷ cnot b c ∷ on_one Tdag c ∷ cnot a c ∷ [])) (tdag_here bits c (xor false y) p l)
+    ∙ ap (phase_run_from (on_one T c ∷ cnot b c ∷ on_one Tdag c ∷ cnot a c ∷ [])) (cnot_in bits a c (xor false y) (less_bit p (xor z (xor false y))) h)
+    ∙ ap (phase_run_from (cnot b c ∷ on_one Tdag c ∷ cnot a c ∷ [])) (t_here bits c (xor (xor false y) x) (less_bit p (xor z (xor false y))) l)
+    ∙ ap (phase_run_from (on_one Tdag c ∷ cnot a c ∷ [])) (cnot_in bits b c (xor (xor false y) x) (plus_bit (less_bit p (xor z (xor false y))) (xor z (xor (xor false y) x))) k)
     ∙ ap (phase_run_from (cnot a c ∷ [])) (tdag_here bits c (xor (xor (xor false y) x) y) (plus_bit (less_bit p (xor z (xor false y))) (xor z (xor (xor false y) x))) l)
     ∙ cnot_in bits a c (xor (xor (xor false y) x) y) (phase_c x y z p) h
 
@@ -76,8 +77,8 @@ run_b : (bits : List Bool) (a b c : Wire) (p : ℕ) → a.number ≢ b.number �
 run_b bits a b c p h l =
     let x : Bool = bit_at bits a.number in
     let y : Bool = bit_at bits b.number in
-    ap (phase_run_from (alone T a ∷ alone Tdag b ∷ cnot a b ∷ [])) (cnot_in bits a b false p h)
-    ∙ ap (phase_run_from (alone Tdag b ∷ cnot a b ∷ [])) (t_other bits a b (xor false x) p h)
+    ap (phase_run_from (on_one T a ∷ on_one Tdag b ∷ cnot a b ∷ [])) (cnot_in bits a b false p h)
+    ∙ ap (phase_run_from (on_one Tdag b ∷ cnot a b ∷ [])) (t_other bits a b (xor false x) p h)
     ∙ ap (phase_run_from (cnot a b ∷ [])) (tdag_here bits b (xor false x) (plus_bit p x) l)
     ∙ cnot_in bits a b (xor false x) (less_bit (plus_bit p x) (xor y (xor false x))) h
 
@@ -133,6 +134,6 @@ phase_of_toffoli a b c bits d l =
     let y : Bool = bit_at bits b.number in
     let z : Bool = bit_at bits c.number in
     let p : ℕ = plus_bit (plus_bit (phase_c x y z 0) y) z in
-    ap (λ (s : Phased). phase_run_from (onto_b a b c) (phase_step (alone T c) (phase_step (alone T b) s))) (after_c bits a b c 0 ac bc l.third)
+    ap (λ (s : Phased). phase_run_from (onto_b a b c) (phase_step (on_one T c) (phase_step (on_one T b) s))) (after_c bits a b c 0 ac bc l.third)
     ∙ after_b bits a b c p ab l.second
     ∙ ap (λ (q : ℕ). record { bits = bits; phase = q }) (phase_total x y z)

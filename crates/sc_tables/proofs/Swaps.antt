@@ -3,18 +3,9 @@ use Rattle.std.proofs.Common.{◌≡◌, ◌≢◌, ℕ, zero, suc, ◌<◌, Boo
 use Rattle.std.specs.Prelude.{swap}
 use Rattle.std.proofs.lemmas.List.Edits.{swap_is}
 use Rattle.sc_gate.specs.Runs.{xor, bit_at, xor_at}
+use Rattle.sc_gate.proofs.BitNumbers.{bit_at-get_or, xor_at-set}
 use Rattle.sc_gate.proofs.RunLemmas.{xor_at_both, xor_at_false, xor_at_swap, bit_at_here, bit_at_other, length-xor_at, wires_differ}
 use Rattle.sc_tables.specs.Tables.{FredkinSwap}
-
-bit_at-get_or : (bits : List Bool) (w : ℕ) (d : Bool) → w < length bits → bit_at bits w ≡ get_or bits w d
-bit_at-get_or [] w d h = absurd (omega arith)
-bit_at-get_or (x ∷ bits) zero d h = refl
-bit_at-get_or (x ∷ bits) (suc w) d h = bit_at-get_or bits w d (omega arith)
-
-xor_at-set : (w : ℕ) (v : Bool) (bits : List Bool) → xor_at w v bits ≡ set bits w (xor (bit_at bits w) v)
-xor_at-set w v [] = refl
-xor_at-set zero v (x ∷ bits) = refl
-xor_at-set (suc w) v (x ∷ bits) = ap (λ (l : List Bool). x ∷ l) (xor_at-set w v bits)
 
 -- the difference of two bits, taken into both, swaps them
 xor_swaps : (y z : Bool) → xor z (xor y z) ≡ y

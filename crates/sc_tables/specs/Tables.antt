@@ -1,10 +1,11 @@
 -- The gate lists that stand in the place of a Toffoli and a Fredkin gate.
-use Rattle.std.specs.Prelude.{◌≡◌, ◌≢◌, ℕ, ◌*◌, ◌<◌, ◌++◌, Bool, true, false, not, List, [], ◌∷◌, Some, None, filter, length, swap, if◌then◌else◌}
+use Rattle.std.specs.Prelude.{◌≡◌, ◌≢◌, ℕ, ◌*◌, ◌<◌, ◌++◌, Bool, true, false, not, List, [], ◌∷◌, filter, length, swap, if◌then◌else◌}
 use Rattle.sc_base.specs.declared.names.Class.TheVariants.{Q}
 use Rattle.sc_gate.specs.declared.gate.Wire.{Wire}
 use Rattle.sc_gate.specs.declared.gate.Kind.{Kind}
 use Rattle.sc_gate.specs.declared.gate.Kind.TheVariants.{H, T, Tdag, Cnot, Toffoli}
 use Rattle.sc_gate.specs.declared.gate.Gate.{Gate}
+use Rattle.sc_gate.specs.Kinds.{on_one, on_two, on_three}
 use Rattle.sc_gate.specs.Runs.{bit, bit_at, bit_run, phase_run}
 
 -- three distinct qubits
@@ -16,35 +17,31 @@ pub record AreThreeQubits (a b c : Wire) : Type 0 where
   pub first_third : a ≢ c
   pub second_third : b ≢ c
 
--- a gate with one operand
-abbrev pub alone : Kind → Wire → Gate
-alone kind a = record { kind = kind; a = a; b = None; c = None }
-
 -- a CNOT, the control first
 abbrev pub cnot : Wire → Wire → Gate
-cnot a b = record { kind = Cnot; a = a; b = Some b; c = None }
+cnot a b = on_two Cnot a b
 
 abbrev pub toffoli_gate : Wire → Wire → Wire → Gate
-toffoli_gate a b c = record { kind = Toffoli; a = a; b = Some b; c = Some c }
+toffoli_gate a b c = on_three Toffoli a b c
 
 -- the list for a Toffoli with the controls a, b and the target c
 abbrev pub toffoli_list : Wire → Wire → Wire → List Gate
 toffoli_list a b c =
-    alone H c
+    on_one H c
     ∷ cnot b c
-    ∷ alone Tdag c
+    ∷ on_one Tdag c
     ∷ cnot a c
-    ∷ alone T c
+    ∷ on_one T c
     ∷ cnot b c
-    ∷ alone Tdag c
+    ∷ on_one Tdag c
     ∷ cnot a c
-    ∷ alone T b
-    ∷ alone T c
+    ∷ on_one T b
+    ∷ on_one T c
     ∷ cnot a b
-    ∷ alone T a
-    ∷ alone Tdag b
+    ∷ on_one T a
+    ∷ on_one Tdag b
     ∷ cnot a b
-    ∷ alone H c
+    ∷ on_one H c
     ∷ []
 
 -- a CNOT from c to b before these gates and after them

@@ -5,6 +5,3 @@ pub mod laws;
 mod lists;
 
 pub use lists::{fredkin, toffoli};
-
-#[cfg(test)]
-mod tests;

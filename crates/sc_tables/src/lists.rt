@@ -1,7 +1,7 @@
 //! The two lists.
 ghost use Rattle.std.specs.Prelude.{◌≡◌};
 ghost use Rattle.sc_gate.specs.Gates.{AreWellFormed};
-ghost use Rattle.sc_tables.specs.Tables.{AreThreeQubits, toffoli_list, fredkin_list};
+ghost use Rattle.sc_tables.specs.Tables.{AreThreeQubits, cnot, toffoli_list, fredkin_list};
 
 use sc_gate::{Gate, Kind, Wire};
 
@@ -12,44 +12,28 @@ pub fn toffoli(a: Wire, b: Wire, c: Wire) -> [Gate; 15]
     ensures well_formed { AreWellFormed result }
 {
     [
-        alone(Kind::H, c),
+        Gate::one(Kind::H, c),
         cnot(b, c),
-        alone(Kind::Tdag, c),
+        Gate::one(Kind::Tdag, c),
         cnot(a, c),
-        alone(Kind::T, c),
+        Gate::one(Kind::T, c),
         cnot(b, c),
-        alone(Kind::Tdag, c),
+        Gate::one(Kind::Tdag, c),
         cnot(a, c),
-        alone(Kind::T, b),
-        alone(Kind::T, c),
+        Gate::one(Kind::T, b),
+        Gate::one(Kind::T, c),
         cnot(a, b),
-        alone(Kind::T, a),
-        alone(Kind::Tdag, b),
+        Gate::one(Kind::T, a),
+        Gate::one(Kind::Tdag, b),
         cnot(a, b),
-        alone(Kind::H, c),
+        Gate::one(Kind::H, c),
     ]
 }
 
-fn alone(kind: Kind, a: Wire) -> Gate
-    ensures { result ≡ record { kind = kind; a = a; b = None; c = None } }
-{
-    Gate {
-        kind,
-        a,
-        b: None,
-        c: None,
-    }
-}
-
 fn cnot(a: Wire, b: Wire) -> Gate
-    ensures { result ≡ record { kind = Kind.Cnot; a = a; b = Some b; c = None } }
+    ensures { result ≡ cnot a b }
 {
-    Gate {
-        kind: Kind::Cnot,
-        a,
-        b: Some(b),
-        c: None,
-    }
+    Gate::two(Kind::Cnot, a, b)
 }
 
 /// The list for a Fredkin gate with the control `a` that swaps `b` and `c`, which are distinct qubits.

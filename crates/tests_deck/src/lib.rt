@@ -1,2 +1,9 @@
 //! Tests of decks and what stands on them, schedules and their checker.
 #![tactic(auto)]
+
+#[cfg(test)]
+mod check;
+#[cfg(test)]
+mod gates;
+#[cfg(test)]
+mod sched;

@@ -2,4 +2,8 @@
 #![tactic(auto)]
 
 #[cfg(test)]
+mod gate;
+#[cfg(test)]
 mod syntax;
+#[cfg(test)]
+mod tables;

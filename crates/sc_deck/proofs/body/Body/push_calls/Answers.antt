@@ -1,3 +1,4 @@
+use Rattle.std.proofs.Common.{arith, rules}
 use Rattle.sc_deck.specs.declared.item.Item.TheVariants as item
 use Rattle.sc_deck.proofs.BodyLemmas.{counts_more, counted_narrow}
 use Rattle.sc_deck.proofs.body.Body.push_calls.Goals as goal
@@ -5,4 +6,4 @@ use Rattle.sc_deck.proofs.body.Body.push_calls.Goals as goal
 pub invariant_of-self-2 : goal.invariant_of-self-2
 invariant_of-self-2 c =
     counts_more _ _ (item.Calls c.args.callee c.args.wires.now c.args.turns) _ _ c.self.invariant c.self.view_is (rw c.in_ok-operands.ensures at c.in_ok-push.ensures.ok)
-    ((record { distinct = c.requires.distinct; there = c.requires.there }, c.requires.repeated)) (counted_narrow _ _ c.self.invariant)
+    ((record { distinct = c.requires.distinct; there = c.requires.there }, c.requires.repeated)) (first_of (omega arith, search rules)) (counted_narrow _ _ c.self.invariant)

@@ -1,5 +1,5 @@
 use Rattle.std.proofs.Common.{ℕ, get_or, ◌||◌, ◌≡◌, ◌+◌, ◌++◌, ◌∷◌, [], ◌<◌, List, None, length, map, take, drop, sym, ap, subst, ◌∙◌, arith, length-append}
-use Rattle.std.specs.Prelude.{Bool, false, nat_eq}
+use Rattle.std.specs.Prelude.{All, Bool, false, nat_eq}
 use Rattle.std.specs.List.{list_any}
 use Rattle.std.specs.Map.{lookup}
 use Rattle.std.proofs.lemmas.List.{map-append}
@@ -9,7 +9,7 @@ use Rattle.sc_deck.specs.declared.entry.Entry.{Entry}
 use Rattle.sc_deck.specs.Decks.{IsNewKey, CallsFit}
 use Rattle.sc_deck.specs.Entries.{module_in, modules_in, height_in, reach_in, KeepsDeck}
 use Rattle.sc_deck.specs.Items.{callees_of}
-use Rattle.sc_deck.specs.Keys.{same_key}
+use Rattle.sc_deck.specs.Keys.{same_key, ArgInRange}
 use Rattle.sc_deck.specs.Modules.{Module, greatest_called}
 use Rattle.sc_deck.proofs.DeckLemmas.{KeepsDeck-push}
 use Rattle.sc_deck.proofs.FindLemmas.{lookup_new}
@@ -68,7 +68,7 @@ invariant_of-self-2 c =
     ∙ (λ j. get_or (lent_marks c j) i false || list_any (nat_eq i) (callees_of (c.items-2.ensures j))) in
     subst (λ (l : List Bool). KeepsDeck c.insert.new.self.entries l) (sym (marks_after c))
     (subst (λ (l : List (Key × Entry)). KeepsDeck l c.mark_callees.new.marks) (sym (entries_after c))
-    (KeepsDeck-push es c.self.inside.called.items c.mark_callees.new.marks c.args.key (entry_of c) c.self.invariant (new_key c) c.requires.lengths c.requires.params c.wires.ensures.sound room fit
+    (KeepsDeck-push es c.self.inside.called.items c.mark_callees.new.marks c.args.key (entry_of c) c.self.invariant (new_key c) c.requires.lengths (subst (All ArgInRange) c.as_slice.ensures c.args_have_ranges.ensures) c.requires.params c.wires.ensures.sound room fit
     (ap (λ (n : ℕ). n + 1) (c.called_by_all-height.ensures.height ∙ ap (greatest_called (map height_in es)) c.items.ensures))
     (λ j. (c.called_by_all-height.ensures.reach ∙ ap (greatest_called (map reach_in es)) c.items.ensures) j + (c.from.ensures ∙ c.wires.ensures.count) j)
     (c.mark_callees.ensures.len ∙ ap length (lent_marks c) ∙ length-append c.self.inside.called.items (false ∷ []) ∙ ap (λ (n : ℕ). n + 1) c.self.invariant.marked)
