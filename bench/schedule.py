@@ -29,6 +29,11 @@ CASES = {
     'mixed_4_4': ('mixed', 4, 4, 'rcp'),
     'mixed_4_4_lpfs': ('mixed', 4, 4, 'lpfs'),
     'mixed_1000_1000': ('mixed', 1000, 1000, 'rcp'),
+    # Numbers picked so that a hash table of the kit would put them into few of its groups. The two with k = 0 pick and make the gates alone.
+    'picked_gates': ('picked', 0, 1, 'rcp'),
+    'picked_4_4': ('picked', 4, 4, 'rcp'),
+    'picked_angles_gates': ('picked_angles', 0, 1, 'rcp'),
+    'picked_angles_4_4': ('picked_angles', 4, 4, 'rcp'),
 }
 
 MAIN_RT = '''//! Makes gates of a form, and their schedule: the words are the form, the number of gates, k, d and the order.
@@ -106,6 +111,52 @@ fn make(alloc: Global, form: &str, count: u32) -> Result<Vec<Gate>, AllocError> 
     Ok(gates)
 }
 
+/// A turn of the kit's hasher: its state after a number of so many bytes.
+fn fold(state: u64, number: u64, size: u64) -> u64 {
+    let factor = 0x9e37_79b9_7f4a_7c15u64 ^ (2 * size.min(8));
+    let product = ((state ^ number) as u128).wrapping_mul(factor as u128);
+    (product & 0xFFFF_FFFF_FFFF_FFFF) as u64 ^ (product >> 64) as u64
+}
+
+/// Whether the kit's hash map would begin its look-up in one group of 256, for a wire's number or an angle of Rz.
+fn is_picked(x: u32, is_angle: bool) -> bool {
+    let seed = 0x243f_6a88_85a3_08d3;
+    let number = x as u64;
+    let hash = if is_angle {
+        fold(fold(seed, 13, 8), number, 8)
+    } else {
+        fold(seed, number | number << 32, 4)
+    };
+    (hash ^ (hash >> 32)) % 256 == 0
+}
+
+/// H on picked wires, or Rz of picked angles on wires of their own.
+fn make_picked(alloc: Global, count: u32, is_angle: bool) -> Result<Vec<Gate>, AllocError> {
+    let mut gates = Vec::with_capacity(alloc, count as usize)?;
+    for x in 0..u32::MAX {
+        if gates.len() >= count as usize {
+            return Ok(gates);
+        }
+        if is_picked(x, is_angle) {
+            let number = gates.len() as u32;
+            gates.push(if is_angle {
+                single(Kind::Rz(Fixed(x as i64)), number)
+            } else {
+                single(Kind::H, x)
+            })?;
+        }
+    }
+    Ok(gates)
+}
+
+fn make_form(alloc: Global, form: &str, count: u32) -> Result<Vec<Gate>, AllocError> {
+    match form {
+        "picked" => make_picked(alloc, count, false),
+        "picked_angles" => make_picked(alloc, count, true),
+        _ => make(alloc, form, count),
+    }
+}
+
 /// Whether there is a schedule, by LPFS or RCP.
 fn has_schedule(alloc: Global, gates: &[Gate], k: u32, d: u32, by_through: bool) -> bool {
     let times = Times::ones();
@@ -147,7 +198,7 @@ fn main(rt: HostRuntime) -> ExitCode {
     let Some(words) = read_args(&rt) else {
         return ExitCode::from(3);
     };
-    let Ok(gates) = make(rt.alloc(), word(&words, 1), number(&words, 2)) else {
+    let Ok(gates) = make_form(rt.alloc(), word(&words, 1), number(&words, 2)) else {
         return ExitCode::from(2);
     };
     let by_through = word(&words, 5) == "lpfs";

@@ -12,7 +12,7 @@ use Rattle.sc_sched.specs.Gates.{kind_at, shares}
 use Rattle.sc_sched.specs.Schedule.{positions}
 use Rattle.sc_sched.specs.Legal.{Region, Step, placed, times_placed, step_of, IsLegal}
 use Rattle.sc_sched.proofs.Build.{search_below}
-use Rattle.sc_sched.proofs.LastOn.{some_below_any}
+use Rattle.sc_sched.proofs.SharedWires.{some_below_any}
 use Rattle.sc_sched.proofs.Count.{and_left, and_right}
 use Rattle.sc_check.specs.declared.finding.Finding.{Finding}
 use Rattle.sc_check.specs.declared.finding.Finding.TheVariants.{Legal, Missing, Twice, Early, TooManyRegions, TooWideRegion, MixedKinds}

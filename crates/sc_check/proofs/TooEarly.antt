@@ -9,9 +9,11 @@ use Rattle.sc_gate.specs.declared.gate.Gate.{Gate}
 use Rattle.sc_gate.specs.Gates.{operands}
 use Rattle.sc_gate.specs.Wires.{member}
 use Rattle.sc_gate.proofs.WireLemmas.{member_here, member_later, member_cases}
-use Rattle.sc_sched.specs.Gates.{has_wire, last_on, shares}
+use Rattle.sc_sched.specs.Gates.{shares}
 use Rattle.sc_sched.proofs.Count.{and_left, and_right, both, either, or_left, or_right, same_truth}
-use Rattle.sc_sched.proofs.LastOn.{has_at, LastOn, last_is, LastFrom, last_from, SharedWire, shared_wire, shares_by, any_below, some_below_any}
+use Rattle.sc_gate.specs.LastGates.{has_wire, last_on, has_at, IsLastOn}
+use Rattle.sc_gate.proofs.LastOn.{last_is, LastFrom, last_from}
+use Rattle.sc_sched.proofs.SharedWires.{SharedWire, shared_wire, shares_by, any_below, some_below_any}
 use Rattle.sc_check.specs.declared.places.Stands.{Stands}
 use Rattle.sc_check.specs.Early.{step_at, not_before, any_not_before, early_by}
 
@@ -45,14 +47,14 @@ early_here gates places x gate last here is h =
     same_truth _ _
     (λ t. (let (w, m, k) = some_wire (λ w. not_before places (st x) (last w)) (operands gate) t in
     let (p, e, l) = not_before_some places (st x) (last w) k in
-    let r : LastOn gates w x p = last_is gates w x p (sym (is w) ∙ e) in
+    let r : IsLastOn gates w x p = last_is gates w x p (sym (is w) ∙ e) in
     any_below (λ y. shares gates y x && nat_le (st x) (st y)) x p r.below
     (both _ _ (shares_by gates p x w r.has (has_here gates x gate w here ∙ m)) (le-leb (st x) (st p) l))))
     (λ t. (let (y, l, k) = some_below_any (λ y. shares gates y x && nat_le (st x) (st y)) x t in
     let s : SharedWire gates y x = shared_wire gates y x (and_left (shares gates y x) _ k) in
     let later : st x ≤ st y = leb-true _ _ (and_right (shares gates y x) _ k) in
     let r : LastFrom gates s.wire x y = last_from gates s.wire x y l s.first in
-    let f : LastOn gates s.wire x r.at = last_is gates s.wire x r.at r.is in
+    let f : IsLastOn gates s.wire x r.at = last_is gates s.wire x r.at r.is in
     let up : st y ≤ st r.at = elim (cases_lt y r.at) [
       | inl b ↦ (let k : st y < st r.at = goes_before gates st y r.at (h r.at f.below) b (shares_by gates y r.at s.wire s.first f.has) in omega (arith, k))
       | inr g ↦ (let e : y ≡ r.at = omega (arith, g, r.not_before) in omega (arith, ap st e))
@@ -78,4 +80,4 @@ last_next gates x d w now old l e is = rw add-one (last_more gates x (get_or gat
 
 -- the last gate on a wire is below
 pub last_inside : (gates : List Gate) (w : Wire) (x p : ℕ) (now : Option ℕ) → now ≡ last_on gates w x → x ≤ length gates → now ≡ Some p → p < length gates
-last_inside gates w x p now is l e = let r : LastOn gates w x p = last_is gates w x p (sym is ∙ e) in omega (arith, r.below, l)
+last_inside gates w x p now is l e = let r : IsLastOn gates w x p = last_is gates w x p (sym is ∙ e) in omega (arith, r.below, l)

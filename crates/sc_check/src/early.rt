@@ -2,15 +2,14 @@
 ghost use Rattle.std.specs.Prelude.{◌≡◌, ℕ, ◌<◌, ◌≤◌, Some, None, Option, length, IfOk};
 ghost use Rattle.sc_gate.specs.declared.gate.Wire.{Wire as WireValue};
 ghost use Rattle.sc_gate.specs.Gates.{operands};
-ghost use Rattle.sc_sched.specs.WireTables.{number_at};
+ghost use Rattle.sc_gate.specs.WireTables.{number_at};
 ghost use Rattle.sc_sched.specs.Gates.{shares};
 ghost use Rattle.sc_check.specs.Places.{lowest};
 ghost use Rattle.sc_check.specs.Early.{step_at, not_before, any_not_before, early_by};
 
 use crate::places::Stands;
 use sc_base::Memory;
-use sc_gate::{Gate, Wire};
-use sc_sched::WireTable;
+use sc_gate::{Gate, Wire, WireTable};
 use std::alloc::Global;
 
 fn step_of(places: &[Stands], x: u32) -> u32
@@ -63,7 +62,7 @@ pub(crate) fn first_early(
     requires places { length places.now ≡ length gates.now }
     ensures { IfOk result (λ x. x ≡ lowest (early_by gates.now (step_at places.now)) (length gates.now)) }
 {
-    let mut last = WireTable::new(alloc);
+    let mut last = WireTable::new(alloc, gates)?;
     for (x, gate) in gates.iter().enumerate() {
         if is_early(&last, places, gate, step_of(places, x as u32)) {
             return Ok(Some(x as u32));

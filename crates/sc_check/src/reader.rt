@@ -95,6 +95,15 @@ pub(crate) fn take_number_line<'a>(
     }
 }
 
+/// The same list, without room for more elements.
+pub(crate) fn exact<T>(list: List<T>) -> List<T>
+    ensures { result ≡ list }
+{
+    let mut items = list.into_vec();
+    items.shrink_to_fit();
+    List::from_vec(items)
+}
+
 /// The positions, each below `gates` and after a space, with which the bytes begin before a line feed, and what follows
 /// it. None where they begin with no such positions.
 fn take_positions(
@@ -119,7 +128,7 @@ fn take_positions(
         rest = more;
     }
     match take_text(rest, b"\n") {
-        Some(more) => Ok(Some((region, more))),
+        Some(more) => Ok(Some((exact(region), more))),
         None => Ok(None),
     }
 }

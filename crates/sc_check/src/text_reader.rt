@@ -3,7 +3,7 @@ ghost use Rattle.std.specs.Prelude.{◌≡◌, ◌+◌, ℕ, ◌<◌, ◌≤◌,
 ghost use Rattle.sc_sched.specs.Text.{region_line, step_text, IsWritable, IsTextOf};
 ghost use Rattle.sc_check.specs.ReadFaults.{IsReadFault, IsBodyFault, ReadsBody, ReadsRegions};
 
-use crate::reader::{take_number_line, take_region_line, take_text};
+use crate::reader::{exact, take_number_line, take_region_line, take_text};
 use sc_base::{List, Memory};
 use sc_sched::{Plan, Step};
 use std::alloc::Global;
@@ -93,5 +93,5 @@ fn take_regions(alloc: Global, text: &[u8], gates: u32) -> Result<(Step, &[u8]),
         step.push(region)?;
         rest = more;
     }
-    Ok((step, rest))
+    Ok((exact(step), rest))
 }

@@ -1,15 +1,14 @@
 -- An item that joins the last one of a list, or is put behind it.
-use Rattle.std.proofs.Common.{◌≡◌, ◌≢◌, ℕ, zero, suc, ◌+◌, ◌-◌, ◌<◌, ◌≤◌, Bool, true, false, List, [], ◌∷◌, ◌++◌, length, slice_get, Option, Some, None, Result, Ok, Err, OnOk, ◌^◌, refl, sym, ap, ◌∙◌, subst, arith, true≢false, All}
+use Rattle.std.proofs.Common.{◌≡◌, ◌≢◌, ℕ, zero, suc, ◌+◌, ◌-◌, ◌<◌, ◌≤◌, Bool, true, false, List, [], ◌∷◌, ◌++◌, length, take, get_or, slice_get, Option, Some, None, Result, Ok, Err, OnOk, ◌^◌, refl, sym, ap, ◌∙◌, subst, arith, true≢false, All}
 use Rattle.std.specs.Prelude.{if◌then◌else◌, IfSome, IfNone}
-use Rattle.std.specs.Bool.{Decides}
 use Rattle.std.proofs.Math.ListN.{set}
+use Rattle.std.proofs.Math.Seq.{take-length}
+use Rattle.std.proofs.lemmas.List.{take_more, get_or_default}
 use Rattle.std.proofs.lemmas.List.Elements.{All-push, All-set}
 use Rattle.sc_gate.specs.declared.gate.Wire.{Wire}
 use Rattle.sc_gate.specs.declared.gate.Gate.{Gate}
 use Rattle.sc_gate.specs.Numbers.{Numbers, both}
 use Rattle.sc_gate.specs.SameGates.{same_gate}
-use Rattle.sc_gate.specs.Wires.{same_wire}
-use Rattle.sc_gate.proofs.WireLemmas.{same_wire-true, same_wire-refl}
 use Rattle.sc_gate.proofs.SameGates.{same_gate-refl, same_gate-true}
 use Rattle.sc_deck.specs.declared.item.Item.{Item}
 use Rattle.sc_deck.specs.declared.item.Item.TheVariants as item
@@ -110,8 +109,18 @@ pub on_ok_map : {T E : Type 0} (r : Result T E) (P Q : Type 0) → (P → Q) →
 on_ok_map (Ok x) P Q f h = f h
 on_ok_map (Err y) P Q f h = tt
 
-pub same_wire-decides : (v w : Wire) → Decides (same_wire v w) (v ≡ w)
-same_wire-decides v w = (same_wire-true v w, λ e. subst (λ (x : Wire). same_wire v x ≡ true) e (same_wire-refl v))
+-- two lists of one length that are compared wire by wire
+pub same_more : (vs ws : List Wire) (i : ℕ) (d e : Wire) → length vs ≡ length ws → i < length vs → take i vs ≡ take i ws → get_or vs i d ≡ get_or ws i e → take (i + 1) vs ≡ take (i + 1) ws
+same_more vs ws i d e long below so_far here =
+    let within : i < length ws = omega arith in
+    take_more vs i d below ∙ (λ k. so_far k ++ here k ∷ []) ∙ sym (take_more ws i e within)
+
+pub same_end : (vs ws : List Wire) (i : ℕ) → length vs ≡ length ws → i ≡ length vs → take i vs ≡ take i ws → vs ≡ ws
+same_end vs ws i long end so_far =
+    sym (ap (λ (k : ℕ). take k vs) end ∙ take-length vs) ∙ so_far ∙ (ap (λ (k : ℕ). take k ws) (end ∙ long) ∙ take-length ws)
+
+pub same_at : (vs ws : List Wire) (i : ℕ) (d e : Wire) → i < length vs → vs ≡ ws → get_or vs i d ≡ get_or ws i e
+same_at vs ws i d e below same = get_or_default vs i d e below ∙ ap (λ (l : List Wire). get_or l i e) same
 
 pub gate_in_range : (g : Gate) (n : ℕ) → ItemInRange (item.Gate g) → n < 2 ^ 64 → ItemInRange (item.Gates g n)
 gate_in_range g n range small = (range, small)

@@ -128,6 +128,19 @@ impl Body {
         Ok(())
     }
 
+    /// Appends a call of the body with number `callee`, or adds a turn to the last item where that is the same call.
+    /// Unchanged after `Memory`.
+    pub fn fold_call(&mut self, callee: u32, wires: &[Wire]) -> Result<(), Memory>
+        requires distinct { AreDistinct wires.now }
+        requires there { AreThere (wires_of self.old) wires.now }
+        requires room { last_turns self.old.items + 1 < 2 ^ 64 }
+        ensures ok { OnOk result (self.new ≡ record self.old { items = with_folded self.old.items (Item.Call callee wires.now) }) }
+        ensures err { OnErr result (self.new ≡ self.old) }
+    {
+        fold::fold_call(&mut self.items, self.alloc, callee, wires)?;
+        Ok(())
+    }
+
     /// How many wires of this class there are so far, parameters included. Takes no memory.
     pub fn count(&self, class: Class) -> u32
         ensures { result ≡ number_of class (wires_of self.now) }

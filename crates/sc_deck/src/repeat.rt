@@ -117,7 +117,7 @@ fn stands_in(wire: &Wire, wires: &[Wire]) -> bool
     false
 }
 
-fn is_same(a: &Wire, b: &Wire) -> bool
+pub(crate) fn is_same(a: &Wire, b: &Wire) -> bool
     ensures { IsTrue result ↔ (a.now ≡ b.now) }
 {
     *a == *b

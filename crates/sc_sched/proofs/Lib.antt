@@ -12,12 +12,12 @@ pub mod Open
 pub mod Once
 pub mod Shops
 pub mod SameKind
-pub mod LastOn
+pub mod SharedWires
 pub mod TextLemmas
 pub mod RegionLemmas
 pub mod OneSchedule
 pub mod Lawful
-pub mod RankLemmas
+pub mod StepLaws
 pub mod SomeRank
 pub mod LaidSteps
 pub mod Grouping
@@ -33,3 +33,4 @@ pub mod SlotLemmas
 pub mod SlotSteps
 pub mod Layouts
 pub mod NumberTrees
+pub mod WordLemmas

@@ -11,10 +11,10 @@ use Rattle.sc_gate.specs.Gates.{operands}
 use Rattle.sc_gate.specs.Wires.{member}
 use Rattle.sc_gate.proofs.WireLemmas.{member_here, member_later, member_cases}
 use Rattle.sc_sched.specs.declared.neighbours.Neighbours.{Neighbours}
-use Rattle.sc_sched.specs.Gates.{has_wire, last_on}
 use Rattle.sc_sched.specs.Neighbours.{on_wire, numbers_by, none_or, each, is_number, holds, neighbours_at, AreNext}
 use Rattle.sc_sched.proofs.Count.{and_left, and_right, both, either, or_left, or_right}
-use Rattle.sc_sched.proofs.LastOn.{has_at, LastOn, last_is}
+use Rattle.sc_gate.specs.LastGates.{has_wire, last_on, has_at, IsLastOn}
+use Rattle.sc_gate.proofs.LastOn.{last_is}
 
 -- the table has the first gate at x or after it on each wire
 pub record IsFirst (gates : List Gate) (x : ℕ) (first : Wire → Option ℕ) : Type 0 where
@@ -216,5 +216,5 @@ pub next_done : (gates : List Gate) (x : ℕ) (next : List Neighbours) → x ≤
 next_done gates x next l many h = record {
   many = many;
   inside = h.inside;
-  found = λ p z w has last. (let r : LastOn gates w z p = last_is gates w z p last in h.is p z w (omega (arith, l)) r.below (has_below gates z w has) r.has has r.last);
+  found = λ p z w has last. (let r : IsLastOn gates w z p = last_is gates w z p last in h.is p z w (omega (arith, l)) r.below (has_below gates z w has) r.has has r.last);
 }

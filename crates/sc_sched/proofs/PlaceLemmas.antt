@@ -26,7 +26,7 @@ pub length_positions : (n : ℕ) → length (positions n) ≡ n
 length_positions zero = refl
 length_positions (suc n) = omega (arith, length-append (positions n) (n ∷ []), length_positions n)
 
-positions_at : (n i d : ℕ) → i < n → get_or (positions n) i d ≡ i
+pub positions_at : (n i d : ℕ) → i < n → get_or (positions n) i d ≡ i
 positions_at zero i d l = absurd (omega (arith, l))
 positions_at (suc n) i d l = elim (lt_cases i n l) [
   | inl e ↦ ap (λ (z : ℕ). get_or (positions n ++ n ∷ []) z d) (e ∙ sym (length_positions n)) ∙ (get_or-append_seam (positions n) n [] d ∙ sym e)

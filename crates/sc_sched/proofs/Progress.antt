@@ -8,7 +8,7 @@ use Rattle.std.proofs.lemmas.Bool.{false≢true, cases_Bool, cases_lt, eqb-true,
 use Rattle.std.proofs.lemmas.List.Folds.{list_any-append}
 use Rattle.sc_gate.specs.declared.gate.Gate.{Gate}
 use Rattle.sc_sched.specs.declared.neighbours.Neighbours.{Neighbours}
-use Rattle.sc_sched.specs.Gates.{last_on, shares}
+use Rattle.sc_sched.specs.Gates.{shares}
 use Rattle.sc_sched.specs.Step.{count_below, Shop, IsShop, IsStep, fits, beside}
 use Rattle.sc_sched.specs.Legal.{Step, stands_in, placed}
 use Rattle.sc_sched.specs.Schedule.{all_below, ready, cut, pieces, positions, of_kind, leads, IsPriority}
@@ -25,7 +25,9 @@ use Rattle.sc_sched.proofs.Build.{Follows, no_split, first_of, rest_of, some_rea
 use Rattle.sc_sched.proofs.Lawful.{FirstIn, first_in, shop_of_gates_is}
 use Rattle.sc_sched.proofs.LaidSteps.{AreAlike, laid_shop, laid_alike, laid_step}
 use Rattle.sc_sched.proofs.RegionLemmas.{positions_below, all_filter}
-use Rattle.sc_sched.proofs.LastOn.{LastOn, last_is, LastFrom, last_from, SharedWire, shared_wire, shares_by}
+use Rattle.sc_gate.specs.LastGates.{last_on, IsLastOn}
+use Rattle.sc_gate.proofs.LastOn.{last_is, LastFrom, last_from}
+use Rattle.sc_sched.proofs.SharedWires.{SharedWire, shared_wire, shares_by}
 use Rattle.sc_sched.proofs.NextGates.{each_all, each_at, Fails, each_fails, has_here}
 
 -- each step so far is the one that follows
@@ -126,13 +128,13 @@ module _ (gates : List Gate) where
   last_tells : (p : ℕ → Bool) (x : ℕ) (g : Gate) → slice_get gates x ≡ Some g → ((y z : ℕ) → y < z → z < x → shares gates y z ≡ true → p z ≡ true → p y ≡ true) →
       all_below (λ y. not (shares gates y x) || p y) x ≡ each p (numbers_by (λ w. last_on gates w x) g)
   last_tells p x g e closed = same_truth _ _
-      (λ t. each_all p (λ w. last_on gates w x) g (λ w q m i. (let r : LastOn gates w x q = last_is gates w x q i in
+      (λ t. each_all p (λ w. last_on gates w x) g (λ w q m i. (let r : IsLastOn gates w x q = last_is gates w x q i in
       let s : shares gates q x ≡ true = shares_by gates q x w r.has (has_here gates x g w e ∙ m) in
       elim (either (not (shares gates q x)) (p q) (all_at (λ y. not (shares gates y x) || p y) x q t r.below)) [ inl n ↦ absurd (not_true _ n s) | inr k ↦ k ])))
       (λ t. all_yes _ x (λ y l. elim (cases_Bool (shares gates y x)) [
         | inl s ↦ (let v : SharedWire gates y x = shared_wire gates y x s in
             let r : LastFrom gates v.wire x y = last_from gates v.wire x y l v.first in
-            let f : LastOn gates v.wire x r.at = last_is gates v.wire x r.at r.is in
+            let f : IsLastOn gates v.wire x r.at = last_is gates v.wire x r.at r.is in
             let there : p r.at ≡ true = each_at p (λ w. last_on gates w x) g v.wire r.at t (sym (has_here gates x g v.wire e) ∙ v.second) r.is in
             or_right (not (shares gates y x)) (p y) (elim (cases_lt y r.at) [
               | inl b ↦ closed y r.at b f.below (shares_by gates y r.at v.wire v.first f.has) there
@@ -144,8 +146,8 @@ module _ (gates : List Gate) where
   -- the same numbers pass
   each_same : (p q : ℕ → Bool) (x : ℕ) (g : Gate) → x < length gates → ((y : ℕ) → y < length gates → p y ≡ q y) → each p (numbers_by (λ w. last_on gates w x) g) ≡ each q (numbers_by (λ w. last_on gates w x) g)
   each_same p q x g b h = same_truth _ _
-      (λ t. each_all q (λ w. last_on gates w x) g (λ w y m i. (let r : LastOn gates w x y = last_is gates w x y i in sym (h y (omega (arith, r.below, b))) ∙ each_at p (λ w. last_on gates w x) g w y t m i)))
-      (λ t. each_all p (λ w. last_on gates w x) g (λ w y m i. (let r : LastOn gates w x y = last_is gates w x y i in h y (omega (arith, r.below, b)) ∙ each_at q (λ w. last_on gates w x) g w y t m i)))
+      (λ t. each_all q (λ w. last_on gates w x) g (λ w y m i. (let r : IsLastOn gates w x y = last_is gates w x y i in sym (h y (omega (arith, r.below, b))) ∙ each_at p (λ w. last_on gates w x) g w y t m i)))
+      (λ t. each_all p (λ w. last_on gates w x) g (λ w y m i. (let r : IsLastOn gates w x y = last_is gates w x y i in h y (omega (arith, r.below, b)) ∙ each_at q (λ w. last_on gates w x) g w y t m i)))
 
   gate_there : (x : ℕ) → x < length gates → (g : Gate) × (slice_get gates x ≡ Some g)
   gate_there x l = go gates x l
@@ -185,7 +187,7 @@ module _ (gates : List Gate) where
         | inl w ↦ (let w' : ((not (old x) && each old (numbers_by (λ w. last_on gates w x) g)) && not (stands step x)) ≡ true = sym e' ∙ w in
             let r : (not (old x) && each old (numbers_by (λ w. last_on gates w x) g)) ≡ true = and_left _ _ w' in
             both (not (now x)) (each now (numbers_by (λ w. last_on gates w x) g)) (rw (marks x b) (not_either (old x) (stands step x) (and_left _ _ r) (and_right (not (old x) && each old (numbers_by (λ w. last_on gates w x) g)) _ w')))
-            (each_all now (λ w. last_on gates w x) g (λ w q m i. (let k : LastOn gates w x q = last_is gates w x q i in rw (marks q (omega (arith, k.below, b))) (or_left (old q) (stands step q) (each_at old (λ w. last_on gates w x) g w q (and_right (not (old x)) _ r) m i))))))
+            (each_all now (λ w. last_on gates w x) g (λ w q m i. (let k : IsLastOn gates w x q = last_is gates w x q i in rw (marks q (omega (arith, k.below, b))) (or_left (old q) (stands step q) (each_at old (λ w. last_on gates w x) g w q (and_right (not (old x)) _ r) m i))))))
         | inr r ↦ and_right (list_any (λ p. holds (neighbours_at next p) x) step) _ r
       ])
       (λ t. (let open_now : not (now x) ≡ true = and_left _ _ t in
@@ -193,7 +195,7 @@ module _ (gates : List Gate) where
       elim (cases_Bool (each old (numbers_by (λ w. last_on gates w x) g))) [
         | inl k ↦ or_left _ _ (e' ∙ both _ _ (both _ _ (not_first (old x) (stands step x) both_not) k) (not_second (old x) (stands step x) both_not))
         | inr k ↦ or_right waits _ (both (list_any (λ p. holds (neighbours_at next p) x) step) ready' (let v : Fails old (λ w. last_on gates w x) g = each_fails old (λ w. last_on gates w x) g k in
-            let r : LastOn gates v.wire x v.number = last_is gates v.wire x v.number v.is in
+            let r : IsLastOn gates v.wire x v.number = last_is gates v.wire x v.number v.is in
             let m : now v.number ≡ true = each_at now (λ w. last_on gates w x) g v.wire v.number (and_right (not (now x)) _ t) v.operand v.is in
             let c : stands step v.number ≡ true = right_of (old v.number) (stands step v.number) v.fails (sym (marks v.number (omega (arith, r.below, b))) ∙ m) in
             any_stands (λ p. holds (neighbours_at next p) x) step v.number c (n.found v.number x v.wire (has_here gates x g v.wire here ∙ v.operand) v.is)) t)

@@ -38,7 +38,7 @@ pieces_are P (suc fuel) size (x ∷ xs) h =
     All-cons (λ region. All P region × (length region ≤ size)) (take size (x ∷ xs)) (pieces fuel size (drop size (x ∷ xs)))
     (all_take P size (x ∷ xs) h, take_few size (x ∷ xs)) (pieces_are P fuel size (drop size (x ∷ xs)) (all_drop P size (x ∷ xs) h))
 
-all_flat : {A B : Type 0} (P : B → Type 0) (f : A → List B) (xs : List A) → ((x : A) → All P (f x)) → All P (flat_map f xs)
+pub all_flat : {A B : Type 0} (P : B → Type 0) (f : A → List B) (xs : List A) → ((x : A) → All P (f x)) → All P (flat_map f xs)
 all_flat P f [] h = All-nil P
 all_flat P f (x ∷ xs) h = All-append P (f x) (flat_map f xs) (h x) (all_flat P f xs h)
 

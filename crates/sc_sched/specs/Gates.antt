@@ -44,13 +44,3 @@ value_of _ = pos 0
 -- two kinds have the same name and the same value
 abbrev pub same_kind : Kind → Kind → Bool
 same_kind a b = (place_of (name_of a) == place_of (name_of b)) && int_eq (value_of a) (value_of b)
-
--- the gate has the wire
-abbrev pub has_wire : Option Gate → Wire → Bool
-has_wire None w = false
-has_wire (Some gate) w = member w (operands gate)
-
--- the last gate before position n that has the wire
-abbrev pub last_on : List Gate → Wire → ℕ → Option ℕ
-last_on gates w zero = None
-last_on gates w (suc n) = if has_wire (slice_get gates n) w then Some n else last_on gates w n

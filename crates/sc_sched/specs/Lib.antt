@@ -7,6 +7,7 @@ pub mod Schedule
 pub mod Ranks
 pub mod PrioritySchedules
 pub mod Taken
+pub mod Orders
 pub mod Laws
 pub mod Layout
 pub mod Rounds
@@ -21,3 +22,4 @@ pub mod Numbering
 pub mod Places
 pub mod Scheduling
 pub mod NumberTree
+pub mod WordSets

@@ -2,7 +2,7 @@
 use Rattle.std.specs.Prelude.{◌≡◌, ℕ, ◌<◌, ◌==◌, ◌&&◌, ◌||◌, Bool, true, false, Option, Some, None, List, length, slice_get, slice_index_or}
 use Rattle.sc_gate.specs.declared.gate.Wire.{Wire}
 use Rattle.sc_gate.specs.declared.gate.Gate.{Gate}
-use Rattle.sc_sched.specs.Gates.{has_wire, last_on}
+use Rattle.sc_gate.specs.LastGates.{has_wire, last_on}
 use Rattle.sc_sched.specs.declared.neighbours.Neighbours.{Neighbours}
 
 abbrev pub on_wire : (Wire → Option ℕ) → Option Wire → Option ℕ

@@ -1,16 +1,16 @@
 -- Kinds of gates by numbers.
-use Rattle.std.specs.Prelude.{◌≡◌, ℕ, ◌/◌, ◌<◌, ◌≤◌, ◌==◌, ◌&&◌, Option, Some, List, length, slice_index}
-use Rattle.std.specs.Ordering.{int_eq}
-use Rattle.std.specs.HashMap.{get}
+use Rattle.std.specs.Prelude.{◌≡◌, ℕ, ◌/◌, ◌<◌, ◌≤◌, Option, Some, List, length, slice_index}
+use Rattle.std.specs.Ordering.{ordering_then, nat_cmp, int_cmp}
+use Rattle.std.specs.BTreeMap.{get}
 use Rattle.sc_gate.specs.declared.gate.Kind.{Kind}
 use Rattle.sc_gate.specs.declared.gate.Gate.{Gate}
 use Rattle.sc_gate.specs.Gates.{name_of, place_of}
 use Rattle.sc_sched.specs.declared.kinds.KindTable.{KindTable}
 use Rattle.sc_sched.specs.Gates.{arity_at, kind_at, value_of}
 
--- the number of a kind, by its name and its value
+-- the number of a kind, by the place of its name and its value, in the order of the places and then of the values
 abbrev pub number_of : KindTable → Kind → Option ℕ
-number_of table kind = get (λ x y. x.0 == y.0 && int_eq x.1 y.1) table.numbers (place_of (name_of kind), value_of kind)
+number_of table kind = get (λ x y. ordering_then (nat_cmp x.0 y.0) (int_cmp x.1 y.1)) table.numbers (place_of (name_of kind), value_of kind)
 
 -- the kinds of the first gates of a list have numbers from 0, and the room of each is known
 pub record AreNumbered (gates : List Gate) (many d : ℕ) (kind room : List ℕ) : Type 0 where

@@ -1,7 +1,7 @@
 //! The gates that are ready, by their order and by their kinds.
 ghost use Rattle.sc_sched.specs.Layout.{Layout, IsLayout};
 
-use crate::numbers::NumberSet;
+use crate::sets::NumberSet;
 
 #[derive(Drop)]
 pub struct Board {

@@ -8,13 +8,13 @@ ghost use Rattle.sc_sched.specs.Numbering.{number_of, AreNumbered};
 use sc_base::Memory;
 use sc_gate::{Gate, Kind, arity};
 use std::alloc::Global;
-use std::collections::HashMap;
+use std::collections::BTreeMap;
 
 /// A number for each of some kinds.
 #[derive(Drop)]
 struct KindTable {
-    /// By the place of the name and the value.
-    numbers: HashMap<(usize, i64), u32>,
+    /// By the place of the name and the value, in an ordered map, so that no choice of angles makes it slow.
+    numbers: BTreeMap<(usize, i64), u32>,
 }
 
 /// The angle of a rotation, the start value of a preparation, and 0 for every other kind.
@@ -41,7 +41,7 @@ impl KindTable {
         ensures { (kind : KindValue) → number_of result kind ≡ None }
     {
         KindTable {
-            numbers: HashMap::new(alloc),
+            numbers: BTreeMap::new(alloc),
         }
     }
 

@@ -1,8 +1,12 @@
 //! What is true of all gate lists and schedules.
-ghost use Rattle.std.specs.Prelude.{◌≡◌, ◌≤◌, ℕ, Bool, List};
+ghost use Rattle.std.specs.Prelude.{◌≡◌, ◌≤◌, ◌⊎◌, ℕ, Bool, List, length};
 ghost use Rattle.sc_gate.specs.declared.gate.Gate.{Gate};
 ghost use Rattle.sc_sched.specs.declared.order.Rank.{Rank};
 ghost use Rattle.sc_sched.specs.Legal.{Step};
+ghost use Rattle.sc_sched.specs.Orders.{by_height, by_through};
+ghost use Rattle.sc_sched.specs.declared.plan.Plan.{Plan as PlanValue};
+ghost use Rattle.sc_sched.specs.Scheduling.{IsFirstWider};
+ghost use Rattle.sc_sched.specs.Text.{IsSize, HasText};
 ghost use Rattle.sc_sched.specs.PrioritySchedules.{IsPrioritySchedule, IsRankOrder, NoneIsWider};
 
 use crate::Priority;
@@ -14,6 +18,12 @@ pub fn order_is_lawful<P: Priority>(order: &P)
     let _ = order;
 }
 
+/// Both orders are lawful: that of heights, and that of chains through a gate.
+pub fn both_orders_are_lawful()
+    ensures height { IsRankOrder by_height }
+    ensures through { IsRankOrder by_through }
+{}
+
 /// A gate list has at most one priority schedule.
 pub fn at_most_one_schedule()
     ensures { (comes : Rank → Rank → Bool) (times : List ℕ) (gates : List Gate) (k d : ℕ) (xs ys : List Step) → IsRankOrder comes →
@@ -24,4 +34,21 @@ pub fn at_most_one_schedule()
 pub fn some_schedule()
     ensures { (comes : Rank → Rank → Bool) (times : List ℕ) (gates : List Gate) (k d : ℕ) → IsRankOrder comes → 1 ≤ k → NoneIsWider d gates →
         (steps : List Step) × IsPrioritySchedule comes times gates k d steps }
+{}
+
+/// A priority schedule has at most as many steps as its list has gates.
+pub fn no_more_steps_than_gates()
+    ensures { (comes : Rank → Rank → Bool) (times : List ℕ) (gates : List Gate) (k d : ℕ) (steps : List Step) →
+        IsPrioritySchedule comes times gates k d steps → length steps ≤ length gates }
+{}
+
+/// A gate list has a first gate with more than d qubits, or no such gate.
+pub fn some_gate_is_wider_or_none()
+    ensures { (d : ℕ) (gates : List Gate) → ((x : ℕ) × IsFirstWider d gates x) ⊎ NoneIsWider d gates }
+{}
+
+/// A priority schedule of at most 4,194,304 gates has a text, if its numbers of regions and of qubits may stand in one.
+pub fn priority_schedules_have_texts()
+    ensures { (comes : Rank → Rank → Bool) (times : List ℕ) (gates : List Gate) (s : PlanValue) →
+        length gates ≤ 4194304 → s.gates ≡ length gates → IsSize s.k → IsSize s.d → IsPrioritySchedule comes times gates s.k s.d s.steps → HasText s }
 {}

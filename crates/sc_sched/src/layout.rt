@@ -5,8 +5,8 @@ ghost use Rattle.sc_sched.specs.Laid.{rank_at, before_by, IsLaid};
 
 use crate::board::Board;
 use crate::kinds::{Kinds, number_kinds};
-use crate::numbers::NumberSet;
 use crate::places::{in_order, inverse};
+use crate::sets::NumberSet;
 use crate::slots::{Slots, fill_slots};
 use crate::{Priority, Rank};
 use sc_base::Memory;

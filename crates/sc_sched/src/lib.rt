@@ -17,16 +17,18 @@ mod plan;
 mod ranks;
 mod round;
 mod scheduling;
+mod sets;
 mod slots;
 mod taking;
 mod text;
 mod tray;
 mod waiting;
-mod wires;
 
-pub use laws::{at_most_one_schedule, order_is_lawful, some_schedule};
+pub use laws::{
+    at_most_one_schedule, both_orders_are_lawful, no_more_steps_than_gates, order_is_lawful,
+    priority_schedules_have_texts, some_gate_is_wider_or_none, some_schedule,
+};
 pub use order::{Lpfs, Priority, Rank, Rcp};
 pub use plan::{Plan, Region, Step};
 pub use scheduling::{SchedFault, schedule};
 pub use text::write_schedule;
-pub use wires::WireTable;

@@ -1,11 +1,10 @@
 //! The gates next to each gate on its wires.
 ghost use Rattle.std.specs.Prelude.{◌≡◌, ◌≤◌, length, IfOk};
 ghost use Rattle.sc_sched.specs.Neighbours.{on_wire, numbers_by, AreLast, AreNext};
-ghost use Rattle.sc_sched.specs.WireTables.{number_at};
+ghost use Rattle.sc_gate.specs.WireTables.{number_at};
 
-use crate::WireTable;
 use sc_base::Memory;
-use sc_gate::{Gate, Wire};
+use sc_gate::{Gate, Wire, WireTable};
 use std::alloc::Global;
 
 /// The positions of the next gates on the wires of a gate, one way.
@@ -49,7 +48,7 @@ pub fn last_gates(alloc: Global, gates: &[Gate]) -> Result<Vec<Neighbours>, Memo
     requires { length gates.now ≤ 4194304 }
     ensures { IfOk result (λ last. AreLast gates.now last.items) }
 {
-    let mut table = WireTable::new(alloc);
+    let mut table = WireTable::new(alloc, gates)?;
     let mut last = Vec::with_capacity(alloc, gates.len())?;
     for (x, gate) in gates.iter().enumerate() {
         last.push(Neighbours::of(&table, gate))?;
@@ -63,7 +62,7 @@ pub fn next_gates(alloc: Global, gates: &[Gate]) -> Result<Vec<Neighbours>, Memo
     requires { length gates.now ≤ 4194304 }
     ensures { IfOk result (λ next. AreNext gates.now next.items) }
 {
-    let mut table = WireTable::new(alloc);
+    let mut table = WireTable::new(alloc, gates)?;
     let mut next = vec![in alloc; Neighbours::NONE; gates.len()]?;
     let mut x = gates.len();
     while x > 0 {

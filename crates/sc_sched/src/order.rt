@@ -1,6 +1,6 @@
 //! Orders in which ready gates are taken.
 ghost use Rattle.std.specs.Prelude.{◌≡◌, Bool, true, false, ◌==◌, ◌<◌};
-ghost use Rattle.sc_sched.specs.Taken.{greater_first};
+ghost use Rattle.sc_sched.specs.Orders.{by_height, by_through};
 ghost use Rattle.sc_sched.specs.Laws.{greater_irreflexive, greater_transitive, greater_total};
 
 /// The weight of the heaviest chain that starts at a gate, of the heaviest one that holds it, and its position.
@@ -28,11 +28,11 @@ pub trait Priority {
     ghost total: { (o : Self) (a b : Rank) → comes o a b ≡ false → comes o b a ≡ false → a.position ≡ b.position };
 }
 
-/// The greater height first, then the lower position.
+/// The order of the greater height first, then the lower position.
 pub struct Rcp;
 
 impl Priority for Rcp {
-    ghost comes = { λ o a b. greater_first a.height a.position b.height b.position };
+    ghost comes = { λ o a b. by_height a b };
 
     fn before(&self, a: &Rank, b: &Rank) -> bool {
         b.height < a.height || (a.height == b.height && a.position < b.position)
@@ -49,7 +49,7 @@ impl Priority for Rcp {
 pub struct Lpfs;
 
 impl Priority for Lpfs {
-    ghost comes = { λ o a b. greater_first a.through a.position b.through b.position };
+    ghost comes = { λ o a b. by_through a b };
 
     fn before(&self, a: &Rank, b: &Rank) -> bool {
         b.through < a.through || (a.through == b.through && a.position < b.position)

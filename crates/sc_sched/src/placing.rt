@@ -34,7 +34,7 @@ pub(crate) fn place_all(
     let mut waiting = Waiting::new(alloc, gates)?;
     waiting.free_all(&mut board);
     let mut tray = Tray::new(alloc, room.len())?;
-    let mut cutter = Cutter::new(alloc, gates.len(), room.len())?;
+    let mut cutter = Cutter::new(alloc, room.len())?;
     let mut steps = List::new(alloc);
     loop {
         take_step(&mut board, &mut tray, room.as_slice(), k)?;

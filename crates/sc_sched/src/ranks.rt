@@ -7,9 +7,9 @@ ghost use Rattle.sc_sched.specs.Ranks.{timed_gates, end_at, IsRank};
 ghost use Rattle.sc_sched.specs.WireTables.{value_on};
 ghost use Rattle.sc_sched.specs.Laid.{rank_at};
 
-use crate::{Rank, WireTable};
+use crate::Rank;
 use sc_base::Memory;
-use sc_gate::{Gate, Times, Wire};
+use sc_gate::{Gate, Times, Wire, WireTable};
 use std::alloc::Global;
 
 /// The value at the number of the wire; 0 where it has none.
@@ -47,7 +47,7 @@ fn heights(alloc: Global, gates: &[Gate], times: &Times) -> Result<Vec<u64>, Mem
     ensures many { IfOk result (λ heights. length heights.items ≡ length gates.now) }
     ensures heights { IfOk result (λ heights. (x : ℕ) → x < length gates.now → slice_index heights.items x ≡ height_at (timed_gates times.now gates.now) x) }
 {
-    let mut next = WireTable::new(alloc);
+    let mut next = WireTable::new(alloc, gates)?;
     let Ok(mut heights) = vec![in alloc; 0u64; gates.len()] else {
         return Err(Memory);
     };
@@ -67,7 +67,7 @@ fn ends(alloc: Global, gates: &[Gate], times: &Times) -> Result<Vec<u64>, Memory
     ensures many { IfOk result (λ ends. length ends.items ≡ length gates.now) }
     ensures ends { IfOk result (λ ends. (x : ℕ) → x < length gates.now → slice_index ends.items x ≡ end_at (timed_gates times.now gates.now) x) }
 {
-    let mut last = WireTable::new(alloc);
+    let mut last = WireTable::new(alloc, gates)?;
     let Ok(mut ends) = Vec::with_capacity(alloc, gates.len()) else {
         return Err(Memory);
     };

@@ -1,5 +1,5 @@
 use Rattle.std.proofs.Common.{◌<◌, sym, ◌∙◌, length, below_more, arith}
-use Rattle.sc_sched.specs.WireTables.{number_at}
+use Rattle.sc_gate.specs.WireTables.{number_at}
 use Rattle.sc_check.proofs.Lowest.{lowest_found, lowest_none_at}
 use Rattle.sc_check.proofs.TooEarly.{early_found, last_next, last_inside}
 use Rattle.sc_check.proofs.early.first_early.Goals as goal

@@ -1,7 +1,7 @@
 use Rattle.std.proofs.Common.{◌≡◌, ℕ, ◌<◌, false}
 use Rattle.sc_gate.specs.declared.gate.Wire.{Wire}
-use Rattle.sc_sched.specs.Gates.{last_on}
-use Rattle.sc_sched.specs.WireTables.{number_at}
+use Rattle.sc_gate.specs.LastGates.{last_on}
+use Rattle.sc_gate.specs.WireTables.{number_at}
 use Rattle.sc_check.specs.Early.{step_at, early_by}
 use Rattle.sc_check.proofs.early.first_early.Given as goal
 

@@ -1,5 +1,5 @@
 use Rattle.std.proofs.Common.{◌≡◌, ◌<◌, length, ◌∙◌, arith, rules}
-use Rattle.sc_sched.specs.WireTables.{number_at}
+use Rattle.sc_gate.specs.WireTables.{number_at}
 use Rattle.sc_sched.proofs.NextGates.{last_more, last_pushed, get_below}
 use Rattle.sc_sched.proofs.neighbours.last_gates.Goals as goal
 

@@ -1,7 +1,7 @@
 use Rattle.std.proofs.Common.{◌≡◌, ℕ, suc, ◌-◌, ◌<◌, length, ◌∙◌, arith}
 use Rattle.std.proofs.lemmas.Option.{slice_get-get_or}
 use Rattle.std.proofs.lemmas.List.{length-set}
-use Rattle.sc_sched.specs.WireTables.{number_at}
+use Rattle.sc_gate.specs.WireTables.{number_at}
 use Rattle.sc_sched.proofs.NextGates.{first_more, next_more, next_done}
 use Rattle.sc_sched.proofs.neighbours.next_gates.Goals as goal
 

@@ -1,5 +1,5 @@
 use Rattle.std.proofs.Common.{◌≡◌, ◌≤◌, length}
-use Rattle.sc_sched.specs.WireTables.{number_at}
+use Rattle.sc_gate.specs.WireTables.{number_at}
 use Rattle.sc_sched.proofs.NextGates.{IsFirst, IsNext}
 use Rattle.sc_sched.proofs.neighbours.next_gates.Given as goal
 

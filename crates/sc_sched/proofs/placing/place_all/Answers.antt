@@ -14,7 +14,7 @@ use Rattle.sc_sched.specs.Cutters.{IsIdle}
 use Rattle.sc_sched.specs.Neighbours.{holds, neighbours_at, AreLast, AreNext}
 use Rattle.std.proofs.lemmas.Bool.{false≢true, cases_lt, eq-eqb}
 use Rattle.std.proofs.lemmas.List.{get_or-replicate, length-replicate}
-use Rattle.sc_sched.proofs.Shops.{free_start}
+use Rattle.sc_sched.proofs.Shops.{free_start, opened_start}
 use Rattle.sc_sched.proofs.Build.{Follows}
 use Rattle.sc_sched.proofs.LaidSteps.{laid_shop}
 use Rattle.sc_sched.proofs.Progress.{IsBegun, free_after, begun_none, begun_more, closed, fewer_left, step_follows, whole, placed_after, freed_after, ready_marked}
@@ -39,7 +39,7 @@ loop-steps-init c =
       kinds = c.in_ok-tray.ensures.kinds;
       rooms = rw c.in_ok-tray.ensures.used (length-replicate {A = ℕ} c.len.result 0 ∙ rooms);
       used = λ k b. ap (λ (xs : List ℕ). slice_index xs k) c.in_ok-tray.ensures.used ∙ get_or-replicate {A = ℕ} c.len.result k 0 0 (rw (c.in_ok-tray.ensures.used, length-replicate {A = ℕ} c.len.result 0) at b);
-      idle = subst (λ (n : ℕ). IsIdle (length c.args.gates.now) n c.in_ok-cutter.cutter) kinds c.in_ok-cutter.ensures;
+      idle = subst (λ (n : ℕ). IsIdle n c.in_ok-cutter.cutter) kinds c.in_ok-cutter.ensures;
       begun = λ d before h wide. subst (λ (xs : List Step). IsBegun (shop_of_gates c.args.gates.now c.args.k d before) xs) (sym none) (begun_none (shop_of_gates c.args.gates.now c.args.k d before));
     }
 
@@ -144,7 +144,37 @@ loop-steps-preserved c = record {
   kinds = c.clear.ensures.kinds;
   rooms = c.clear.ensures.many ∙ (c.in_ok-take_step.ensures.used ∙ c.loop-steps.invariant.rooms);
   used = c.clear.ensures.used;
-  idle = subst (λ (n : ℕ). IsIdle n (length c.args.laid.room.items) c.cut.new.self) (ap (λ (m : Layout). length m.kind) c.in_ok-take_step.ensures.layout ∙ many_kinds c)
-      (subst (λ (r : List ℕ). IsIdle (length c.take_step.new.board.kind.items) (length r) c.cut.new.self) c.as_slice-in-loop-steps.ensures.value c.in_ok-cut.ensures.idle);
+  idle = subst (λ (r : List ℕ). IsIdle (length r) c.cut.new.self) c.as_slice-in-loop-steps.ensures.value c.in_ok-cut.ensures.idle;
   begun = begun c;
 }
+
+pub take_step-requires-clause-opened : goal.take_step-requires-clause-opened
+take_step-requires-clause-opened c = rw c.loop-steps.invariant.kinds (opened_start c.loop-steps.tray.used.items c.loop-steps.invariant.used)
+
+pub cut-requires-clause-gates : goal.cut-requires-clause-gates
+cut-requires-clause-gates c = λ x t.
+    let e : length c.take_step.new.board.kind.items ≡ length c.loop-steps.board.kind.items = ap (λ (m : Layout). length m.kind) c.in_ok-take_step.ensures.layout in
+    rw e (c.in_ok-take_step.ensures.inside (λ y u. absurd (false≢true (rw c.loop-steps.invariant.step at u))) x (rw c.as_slice-step.ensures.value at t))
+
+pub cut-requires-clause-kinds : goal.cut-requires-clause-kinds
+cut-requires-clause-kinds c = λ x l.
+    let k : c.take_step.new.board.kind.items ≡ c.args.laid.board.kind.items = ap (λ (m : Layout). m.kind) (c.in_ok-take_step.ensures.layout ∙ c.loop-steps.invariant.layout) in
+    rw (k, c.as_slice-in-loop-steps.ensures.value) (c.requires.laid.laid.kinds x (rw (k, c.requires.laid.laid.many) at l))
+
+pub cut-requires-clause-roomy : goal.cut-requires-clause-roomy
+cut-requires-clause-roomy c = λ k l. rw c.as_slice-in-loop-steps.ensures.value (c.requires.laid.laid.roomy c.requires.laid.fits k (rw c.as_slice-in-loop-steps.ensures.value at l))
+
+pub place-requires : goal.place-requires
+place-requires c = λ x t.
+    let k : length c.loop-steps.board.kind.items ≡ length c.args.gates.now = ap (λ (m : Layout). length m.kind) c.loop-steps.invariant.layout ∙ c.requires.laid.laid.many in
+    rw c.loop-steps.invariant.many (rw k at (c.in_ok-take_step.ensures.inside (λ y u. absurd (false≢true (rw c.loop-steps.invariant.step at u))) x (rw c.as_slice-step.ensures.value at t)))
+
+pub free-requires-clause-inside : goal.free-requires-clause-inside
+free-requires-clause-inside c = λ p x h.
+    let k : length c.take_step.new.board.kind.items ≡ length c.args.gates.now = ap (λ (m : Layout). length m.kind) (c.in_ok-take_step.ensures.layout ∙ c.loop-steps.invariant.layout) ∙ c.requires.laid.laid.many in
+    rw k (c.loop-steps.invariant.next.inside p x (rw c.place.ensures.next at h))
+
+pub free-requires-clause-step : goal.free-requires-clause-step
+free-requires-clause-step c = λ x t.
+    let e : length c.take_step.new.board.kind.items ≡ length c.loop-steps.board.kind.items = ap (λ (m : Layout). length m.kind) c.in_ok-take_step.ensures.layout in
+    rw e (c.in_ok-take_step.ensures.inside (λ y u. absurd (false≢true (rw c.loop-steps.invariant.step at u))) x (rw c.as_slice-step.ensures.value at t))

@@ -22,7 +22,7 @@ invariant-loop-steps l = record {
   kinds : l.tray.kinds.items ≡ [];
   rooms : length l.tray.used.items ≡ length l.fn.laid.room.items;
   used : (k : ℕ) → k < length l.tray.used.items → slice_index l.tray.used.items k ≡ 0;
-  idle : IsIdle (length l.gates) (length l.fn.laid.room.items) l.cutter;
+  idle : IsIdle (length l.fn.laid.room.items) l.cutter;
   begun : (d : ℕ) (before : ℕ → ℕ → Bool) → IsLaid l.gates d before (layout_of l.fn.laid.board) l.fn.laid.room.items → NoneIsWider d l.gates → IsBegun (shop_of_gates l.gates l.k d before) l.steps;
 }
 

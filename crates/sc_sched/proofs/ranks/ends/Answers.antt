@@ -1,5 +1,5 @@
 use Rattle.std.proofs.Common.{◌+◌, ◌∙◌, arith}
-use Rattle.sc_sched.specs.WireTables.{number_at}
+use Rattle.sc_gate.specs.WireTables.{number_at}
 use Rattle.sc_sched.proofs.RankSteps.{end_is, ends_more, end_fits}
 use Rattle.sc_sched.proofs.ranks.ends.Goals as goal
 

@@ -1,5 +1,5 @@
 use Rattle.sc_sched.specs.Ranks.{timed_gates}
-use Rattle.sc_sched.specs.WireTables.{number_at}
+use Rattle.sc_gate.specs.WireTables.{number_at}
 use Rattle.sc_sched.proofs.HeaviestChains.{Ends}
 use Rattle.sc_sched.proofs.ranks.ends.Given as goal
 

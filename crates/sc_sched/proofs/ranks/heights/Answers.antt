@@ -1,6 +1,6 @@
 use Rattle.std.proofs.Common.{◌-◌, ◌<◌, length, ◌∙◌, arith}
 use Rattle.sc_sched.specs.Ranks.{timed_gates}
-use Rattle.sc_sched.specs.WireTables.{number_at}
+use Rattle.sc_gate.specs.WireTables.{number_at}
 use Rattle.sc_sched.proofs.HeaviestChains.{tails_none}
 use Rattle.sc_sched.proofs.RankSteps.{height_is, tails_more, height_fits, many_timed}
 use Rattle.sc_sched.proofs.ranks.heights.Goals as goal
@@ -8,8 +8,8 @@ use Rattle.sc_sched.proofs.ranks.heights.Goals as goal
 pub loop-x-init : goal.loop-x-init
 loop-x-init c = record {
   within = omega arith;
-  tails = tails_none (timed_gates c.args.times.now c.args.gates.now) _ c.in-Ok.heights.items (number_at c.new-next.result) (omega (arith, many_timed c.args.times.now c.args.gates.now))
-      (omega (arith, many_timed c.args.times.now c.args.gates.now, c.in-Ok.ensures.len)) c.new-next.ensures;
+  tails = tails_none (timed_gates c.args.times.now c.args.gates.now) _ c.in-Ok.heights.items (number_at c.in_ok-next.next) (omega (arith, many_timed c.args.times.now c.args.gates.now))
+      (omega (arith, many_timed c.args.times.now c.args.gates.now, c.in-Ok.ensures.len)) c.in_ok-next.ensures;
 }
 
 pub overflow_add-duration : goal.overflow_add-duration

@@ -1,6 +1,6 @@
 use Rattle.std.proofs.Common.{◌≤◌, length}
 use Rattle.sc_sched.specs.Ranks.{timed_gates}
-use Rattle.sc_sched.specs.WireTables.{number_at}
+use Rattle.sc_gate.specs.WireTables.{number_at}
 use Rattle.sc_sched.proofs.HeaviestChains.{Tails}
 use Rattle.sc_sched.proofs.ranks.heights.Given as goal
 

@@ -1,4 +1,4 @@
--- The last gate before a position on a wire.
+-- Wires that two gates share, and tests of the numbers below one.
 use Rattle.std.proofs.Common.{◌≡◌, ℕ, zero, suc, ◌<◌, ◌≤◌, Bool, true, false, Option, Some, None, List, [], ◌∷◌, refl, sym, ap, ◌∙◌, arith, inl, inr}
 use Rattle.std.specs.Prelude.{slice_get}
 use Rattle.std.specs.List.{list_any}
@@ -8,44 +8,10 @@ use Rattle.sc_gate.specs.declared.gate.Wire.{Wire}
 use Rattle.sc_gate.specs.declared.gate.Gate.{Gate}
 use Rattle.sc_gate.specs.Wires.{Shares}
 use Rattle.sc_gate.proofs.WireLemmas.{shares_tells}
-use Rattle.sc_sched.specs.Gates.{has_wire, last_on, both_share, shares}
+use Rattle.sc_gate.specs.LastGates.{has_wire, has_at}
+use Rattle.sc_sched.specs.Gates.{both_share, shares}
 use Rattle.sc_sched.specs.Schedule.{positions}
 use Rattle.sc_sched.proofs.Count.{either, or_left, or_right, lt_cases}
-
-abbrev pub has_at : List Gate → ℕ → Wire → Bool
-has_at gates x w = has_wire (slice_get gates x) w
-
-some_same : (a b : ℕ) → Some a ≡ Some b → a ≡ b
-some_same a b h = cc
-
--- the last one has the wire, and none after it does
-pub record LastOn (gates : List Gate) (w : Wire) (n p : ℕ) : Type 0 where
-  pub below : p < n
-  pub has : has_at gates p w ≡ true
-  pub last : (q : ℕ) → p < q → q < n → has_at gates q w ≡ false
-
-pub last_is : (gates : List Gate) (w : Wire) (n p : ℕ) → last_on gates w n ≡ Some p → LastOn gates w n p
-last_is gates w zero p h = let e : None ≡ Some p = h in cc
-last_is gates w (suc n) p h = elim (cases_Bool (has_at gates n w)) [
-  | inl t ↦ (let e : n ≡ p = some_same n p (rw t at h) in record { below = omega (arith, e); has = ap (λ (q : ℕ). has_at gates q w) (sym e) ∙ t; last = λ q l b. absurd (omega (arith, e, l, b)) })
-  | inr f ↦ (let r : LastOn gates w n p = last_is gates w n p (rw f at h) in record { below = omega (arith, r.below); has = r.has; last = λ q l b. elim (lt_cases q n b) [ inl e ↦ ap (λ (q : ℕ). has_at gates q w) e ∙ f | inr m ↦ r.last q l m ] })
-]
-
--- where some gate has the wire there is a last one
-pub record LastFrom (gates : List Gate) (w : Wire) (n x : ℕ) : Type 0 where
-  pub at : ℕ
-  pub is : last_on gates w n ≡ Some at
-  pub not_before : x ≤ at
-
-pub last_from : (gates : List Gate) (w : Wire) (n x : ℕ) → x < n → has_at gates x w ≡ true → LastFrom gates w n x
-last_from gates w zero x l h = absurd (omega (arith, l))
-last_from gates w (suc n) x l h = elim (cases_Bool (has_at gates n w)) [
-  | inl t ↦ record { at = n; is = rw t refl; not_before = omega (arith, l) }
-  | inr f ↦ elim (lt_cases x n l) [
-    | inl e ↦ absurd (false≢true (sym f ∙ (ap (λ (q : ℕ). has_at gates q w) (sym e) ∙ h)))
-    | inr m ↦ (let r : LastFrom gates w n x = last_from gates w n x m h in record { at = r.at; is = rw f r.is; not_before = r.not_before })
-  ]
-]
 
 -- a wire of both gates
 pub record SharedWire (gates : List Gate) (x y : ℕ) : Type 0 where

@@ -2,7 +2,7 @@ use Rattle.std.proofs.Common.{◌≡◌, ℕ, ◌+◌, ◌<◌, ◌/◌, length,
 use Rattle.std.specs.Prelude.{slice_set}
 use Rattle.sc_sched.specs.NumberTree.{node, IsClosed, numbers}
 use Rattle.sc_sched.proofs.NumberTrees.{numbers_put}
-use Rattle.sc_sched.proofs.numbers.NumberSet.put.Goals as goal
+use Rattle.sc_sched.proofs.numbers.NumberTree.put.Goals as goal
 
 pub returns : goal.returns
 returns c =

@@ -3,7 +3,7 @@ use Rattle.std.specs.Prelude.{replicate, slice_set}
 use Rattle.std.proofs.lemmas.List.{length-replicate}
 use Rattle.sc_sched.specs.NumberTree.{node}
 use Rattle.sc_sched.proofs.NumberTrees.{none_numbers}
-use Rattle.sc_sched.proofs.numbers.NumberSet.new.Goals as goal
+use Rattle.sc_sched.proofs.numbers.NumberTree.new.Goals as goal
 
 pub returns : goal.returns
 returns c =
