@@ -1,59 +1,20 @@
 -- Alike expressions have one kind and the same checks.
-use Rattle.std.proofs.Common.{◌≡◌, ℤ, ℕ, List, [], ◌∷◌, ◌++◌, Option, Some, refl, subst}
-use mathlib.Core.Former.{Count, none_left}
-use Rattle.sc_base.specs.declared.Fixed.{Fixed}
+use Rattle.std.proofs.Common.{◌≡◌, List, [], ◌∷◌, ◌++◌, Option, Some, refl}
+use mathlib.Core.Former.{Count}
 use Rattle.sc_base.specs.declared.Place.{Place}
-use Rattle.sc_syntax.specs.declared.BinOp.{BinOp}
-use Rattle.sc_syntax.specs.declared.UnOp.{UnOp}
 use Rattle.sc_syntax.specs.declared.NumSort.{NumSort}
 use Rattle.sc_syntax.specs.declared.Expr.{Expr}
-use Rattle.sc_syntax.specs.declared.Node as node
-use Rattle.sc_syntax.specs.declared.Node.{Node, Index', Paren', Unary', Chain', Pick', Row_of-Link, end_of-Link, more_of-Link}
-use Rattle.sc_syntax.specs.Alike.{PureNode, PureLinks, int, decimal, name, index, paren, unary, chain, pick, no_links, link, pure_node, pure_links, pure_expr}
-use Rattle.sc_syntax.specs.Kind.{Kinds, ◌>>=◌, kind_of_operation, kind_of_unary, wider, kind_of_node, kind_of_row, kind_of_expr}
+use Rattle.sc_syntax.specs.declared.Node.{Node, Row_of-Link}
+use Rattle.sc_syntax.specs.Alike.{PureNode, PureLinks, pure_expr}
+use Rattle.sc_syntax.specs.Kind.{Kinds, ◌>>=◌, kind_of_operation, kind_of_unary, wider, kind_of_node, kind_of_row}
+use Rattle.sc_syntax.proofs.AlikeLists.{Each, none, next}
+use Rattle.sc_syntax.proofs.AlikeNodes.{IsNode, int_is, decimal_is, name_is, index_is, paren_is, unary_is, chain_is, pick_is, AreLinks, no_links_are, link_are, over_alike}
 use Rattle.sc_types.specs.declared.fault.TypeFault.TheVariants.{WrongKind}
 use Rattle.sc_types.specs.declared.want.Want.{Want}
 use Rattle.sc_types.specs.declared.want.Want.TheVariants.{OneWire, ManyWires, Word, AnInt, ADouble}
 use Rattle.sc_types.specs.Checks.{check}
 use Rattle.sc_types.specs.Numbers.{may_operate, number_node, number_row, number_checks, is_int, int_checks}
 use Rattle.sc_types.specs.Wires.{is_wire, suits_indexed, wire_node, argument_checks, arguments_checks}
-use Rattle.sc_types.proofs.AlikeRows.{Each, none, next}
-
--- a node is one of a pure one
-mutual
-  data IsNode : PureNode → Node → Type 0 where
-    int_is : {n : ℤ} → IsNode (int n) (node.Int n)
-    decimal_is : {d : Fixed} → IsNode (decimal d) (node.Decimal d)
-    name_is : {t : List ℕ} → IsNode (name t) (node.Name t)
-    index_is : {t : List ℕ} {b : _} {p : Place} {x : PureNode} {n : Node} → IsNode x n → IsNode (index t p x) (Index' t b p n)
-    paren_is : {b : _} {p : Place} {x : PureNode} {n : Node} → IsNode x n → IsNode (paren p x) (Paren' b p n)
-    unary_is : {o : UnOp} {b : _} {p : Place} {x : PureNode} {n : Node} → IsNode x n → IsNode (unary o p x) (Unary' o b p n)
-    chain_is : {b : _} {p : Place} {x : PureNode} {n : Node} {ls : PureLinks} {shape : _} {row : _}
-        → IsNode x n → AreLinks ls _ row → IsNode (chain p x ls) (Chain' b p n shape row)
-    pick_is : {b1 b2 b3 : _} {p1 p2 p3 : Place} {x1 x2 x3 : PureNode} {n1 n2 n3 : Node}
-        → IsNode x1 n1 → IsNode x2 n2 → IsNode x3 n3 → IsNode (pick p1 x1 p2 x2 p3 x3) (Pick' b1 p1 n1 b2 p2 n2 b3 p3 n3)
-
-  -- the same of the links of a chain
-  data AreLinks : PureLinks → (m : Count) → Row_of-Link m → Type 0 where
-    no_links_are : AreLinks no_links none_left end_of-Link
-    link_are : {o : BinOp} {at p : Place} {x : PureNode} {n : Node} {ls : PureLinks} {m : Count} {rest : Row_of-Link m}
-        → IsNode x n → AreLinks ls m rest → AreLinks (link o at p x ls) _ (more_of-Link o at p n rest)
-
--- a node is one of its pure node
-mutual
-  node_is : (n : Node) → IsNode (pure_node n) n
-  node_is (node.Int n) = int_is
-  node_is (node.Decimal d) = decimal_is
-  node_is (node.Name t) = name_is
-  node_is (Index' t b p n) = index_is (node_is n)
-  node_is (Paren' b p n) = paren_is (node_is n)
-  node_is (Unary' o b p n) = unary_is (node_is n)
-  node_is (Chain' b p n shape row) = chain_is (node_is n) (links_are row)
-  node_is (Pick' b1 p1 n1 b2 p2 n2 b3 p3 n3) = pick_is (node_is n1) (node_is n2) (node_is n3)
-
-  links_are : {m : Count} (row : Row_of-Link m) → AreLinks (pure_links row) m row
-  links_are end_of-Link = no_links_are
-  links_are (more_of-Link o at p n rest) = link_are (node_is n) (links_are rest)
 
 -- ---- nodes of one pure node
 
@@ -112,26 +73,15 @@ wire_alike ks want at (pick_is h1 h2 h3) (pick_is g1 g2 g3) = refl
 
 -- ---- alike expressions
 
--- what is the same of nodes of one pure node is the same of alike expressions
-over : {A : Type 0} (f : Place → Node → A) → ((at : Place) (x : PureNode) (n m : Node) → IsNode x n → IsNode x m → f at n ≡ f at m)
-    → (d e : Expr) → pure_expr d ≡ pure_expr e → f d.place d.node ≡ f e.place e.node
-over f h d e same =
-    let left : IsNode (pure_node e.node) d.node = subst (λ x. IsNode x d.node) (λ i. (same i).node) (node_is d.node) in
-    λ i. h (same i).place (pure_node e.node) d.node e.node left (node_is e.node) i
-
--- alike expressions have one kind
-pub kind_expr : (ks : Kinds) (d e : Expr) → pure_expr d ≡ pure_expr e → kind_of_expr ks d ≡ kind_of_expr ks e
-kind_expr ks = over (λ at n. kind_of_node ks n) (λ at x n m h g. kind_node ks h g)
-
 -- alike expressions have the same checks where a number is needed, an int, a wire, an argument
 pub number_expr : (ks : Kinds) (d e : Expr) → pure_expr d ≡ pure_expr e → number_checks ks d ≡ number_checks ks e
-number_expr ks = over (number_node ks) (λ at x n m h g. number_alike ks at h g)
+number_expr ks = over_alike (number_node ks) (λ at x n m h g. number_alike ks at h g)
 
 pub int_expr : (ks : Kinds) (d e : Expr) → pure_expr d ≡ pure_expr e → int_checks ks d ≡ int_checks ks e
-int_expr ks = over (λ at n. int_checks ks (record { place = at; node = n })) (λ at x n m h g. int_alike ks at h g)
+int_expr ks = over_alike (λ at n. int_checks ks (record { place = at; node = n })) (λ at x n m h g. int_alike ks at h g)
 
 wire_expr : (ks : Kinds) (want : Want) (d e : Expr) → pure_expr d ≡ pure_expr e → wire_node ks want d.place d.node ≡ wire_node ks want e.place e.node
-wire_expr ks want = over (wire_node ks want) (λ at x n m h g. wire_alike ks want at h g)
+wire_expr ks want = over_alike (wire_node ks want) (λ at x n m h g. wire_alike ks want at h g)
 
 argument_expr : (ks : Kinds) (want : Want) (d e : Expr) → pure_expr d ≡ pure_expr e → argument_checks ks want d ≡ argument_checks ks want e
 argument_expr ks AnInt = int_expr ks

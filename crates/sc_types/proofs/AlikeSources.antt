@@ -25,7 +25,7 @@ use Rattle.sc_types.specs.Declarations.{Declaration, declared_kind, or_pi, is_ne
 use Rattle.sc_types.specs.Statements.{in_turn, param_want, part_wants, part_name}
 use Rattle.sc_types.specs.Sources.{is_int_named, or_later, length_kinds, param_kind, length_checks, walk_params, walk_stmts, walk_module, of_word, part_checks, name_of, is_new_part, parts_checks, is_main}
 use Rattle.sc_types.specs.Typing.{HasOneFault}
-use Rattle.sc_types.proofs.AlikeRows.{Each, each, none, next, each_append, length_alike, any_alike, Held, absent, held, held_of}
+use Rattle.sc_syntax.proofs.AlikeLists.{Each, each, none, next, each_append, length_alike, any_alike, Held, absent, held, held_of}
 use Rattle.sc_types.proofs.AlikeNumbers.{int_expr}
 use Rattle.sc_types.proofs.AlikeStatements.{SameWants, act_alike}
 use Rattle.sc_types.proofs.AlikeWords.{words_alike}

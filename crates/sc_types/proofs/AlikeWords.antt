@@ -4,7 +4,7 @@ use Rattle.sc_syntax.specs.declared.Bind.{Bind}
 use Rattle.sc_syntax.specs.declared.WordFn.{WordFn}
 use Rattle.sc_syntax.specs.Alike.{pure_word_expr, pure_bind}
 use Rattle.sc_word.specs.Checks.{checks_fn, checks}
-use Rattle.sc_types.proofs.AlikeRows.{Each, none, next}
+use Rattle.sc_syntax.proofs.AlikeLists.{Each, none, next}
 
 same_binds : {bs cs : List Bind} → Each pure_bind bs cs → map pure_bind bs ≡ map pure_bind cs
 same_binds none = refl

@@ -1,6 +1,5 @@
 pub mod ActWalks
 pub mod AlikeNumbers
-pub mod AlikeRows
 pub mod AlikeSources
 pub mod AlikeStatements
 pub mod AlikeWords
