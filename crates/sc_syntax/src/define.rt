@@ -216,7 +216,7 @@ fn scan(
     Ok(Some(tokens))
 }
 
-/// TakesPiece the definition that stands in a part of a directive's line.
+/// Takes the definition that stands in a part of a directive's line.
 fn define<'a>(
     alloc: Global,
     names: &mut Defined<'a>,
@@ -249,7 +249,7 @@ fn define<'a>(
     }
 }
 
-/// TakesPiece a directive, whose line stands from `start` to `end`.
+/// Takes a directive, whose line stands from `start` to `end`.
 pub(crate) fn take_directive<'a>(
     alloc: Global,
     names: &mut Defined<'a>,

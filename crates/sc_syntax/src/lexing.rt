@@ -104,7 +104,7 @@ fn take_word(
     }
 }
 
-/// TakesPiece a piece: its tokens are added, or its directive is carried out.
+/// Takes a piece: its tokens are added, or its directive is carried out.
 fn take_piece<'a>(
     alloc: Global,
     source: &'a [u8],
