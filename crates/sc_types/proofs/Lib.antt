@@ -6,6 +6,7 @@ pub mod AlikeWords
 pub mod Arguments
 pub mod Blocks
 pub mod FirstPartsLemmas
+pub mod NamedParts
 pub mod Nesting
 pub mod ParameterLemmas
 pub mod PartLemmas

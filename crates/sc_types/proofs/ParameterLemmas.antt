@@ -2,19 +2,24 @@
 use Rattle.std.proofs.Common.{◌≡◌, ℕ, suc, ◌+◌, ◌<◌, Bool, cond, List, [], ◌∷◌, ◌++◌, length, take, get_or, Option, Some, None, Result, Ok, Err, refl, sym, ap, subst, ◌∙◌, append_assoc, length-append, arith}
 use Rattle.std.proofs.lemmas.List.{length-take-le}
 use Rattle.std.specs.List.{list_any}
+use Rattle.std.proofs.Math.Bool.{and-true, and-false}
 use Rattle.sc_syntax.specs.declared.Kind.{Kind}
+use Rattle.sc_base.specs.Texts.{same}
 use Rattle.sc_syntax.specs.declared.Param.{Param}
+use Rattle.sc_syntax.specs.declared.Sort.{Sort}
+use Rattle.sc_syntax.specs.declared.Sort.TheVariants as sort
 use Rattle.sc_syntax.specs.Kind.{Kinds}
 use Rattle.sc_types.specs.declared.fault.TypeFault.{TypeFault}
 use Rattle.sc_types.specs.Checks.{first_fault}
 use Rattle.sc_types.specs.Declarations.{Declaration, declared_kind, or_pi, is_new}
-use Rattle.sc_types.specs.Parameters.{FindsLastInt, Notes, or_int, length_names, param_on, params_on}
+use Rattle.sc_types.specs.Parameters.{FindsLastInt, noted, or_int, length_names, param_on, params_on}
 use Rattle.sc_types.specs.Positions.{last_at, is_past}
 use Rattle.sc_types.specs.Scopes.{Stack, Stands, StandsAtBody, declared}
 use Rattle.sc_types.specs.Sources.{is_int_named, or_later, length_kinds, length_checks, param_kind, walk_params}
 use Rattle.sc_types.specs.Statements.{Walk}
 use Rattle.sc_types.specs.Tables.{Table, number_under}
 use Rattle.sc_types.specs.Walking.{unless}
+use Rattle.sc_types.proofs.TableLemmas.{number_put}
 use Rattle.sc_types.proofs.PositionLemmas.{last_at-push, is_later, take_next}
 use Rattle.sc_types.proofs.Standing.{declaration, begins}
 use Rattle.sc_types.proofs.Walks.{Walked, Tells, IsHere, nothing, turns, guarded, name_told}
@@ -24,10 +29,20 @@ use Rattle.sc_types.proofs.Walks.{Walked, Tells, IsHere, nothing, turns, guarded
 pub no_ints : FindsLastInt [] []
 no_ints = record { each = λ name. refl }
 
-pub next_int : (all : List Param) (i : ℕ) (p : Param) (old new : Table) → i < length all → p ≡ get_or all i p → FindsLastInt (take i all) old → Notes old p i new
+noted_is : (old : Table) (p : Param) (i : ℕ) (name : List ℕ) → number_under (noted old p i) name ≡ cond (is_int_named name p) (Some i) (number_under old name)
+noted_is old p i name = by p.sort
+  where
+    by : (s : Sort) → number_under (noted old (record { name = p.name; sort = s }) i) name ≡ cond (is_int_named name (record { name = p.name; sort = s })) (Some i) (number_under old name)
+    by sort.Int = number_put old p.name.text i name ∙ ap (λ b. cond b (Some i) (number_under old name)) (sym (and-true (same name p.name.text)))
+    by sort.Double = ap (λ b. cond b (Some i) (number_under old name)) (sym (and-false (same name p.name.text)))
+    by (sort.One c) = ap (λ b. cond b (Some i) (number_under old name)) (sym (and-false (same name p.name.text)))
+    by (sort.Many c e) = ap (λ b. cond b (Some i) (number_under old name)) (sym (and-false (same name p.name.text)))
+
+pub next_int : (all : List Param) (i : ℕ) (p : Param) (old new : Table) → i < length all → p ≡ get_or all i p → FindsLastInt (take i all) old → new ≡ noted old p i
     → FindsLastInt (take (i + 1) all) new
 next_int all i p old new within is h notes = record {
-  each = λ name. notes.each name
+  each = λ name. ap (λ (t : Table). number_under t name) notes
+      ∙ noted_is old p i name
       ∙ ap (λ (a : Option ℕ). cond (is_int_named name p) (Some i) a) (h.each name)
       ∙ ap (λ (n : ℕ). cond (is_int_named name p) (Some n) (last_at (is_int_named name) (take i all))) (sym (length-take-le i all (omega arith)))
       ∙ sym (last_at-push (is_int_named name) (take i all) p)

@@ -1,31 +1,20 @@
 -- The map of a scope, and the scopes around one.
-use Rattle.std.proofs.Common.{◌≡◌, ℕ, ◌+◌, ◌<◌, Bool, cond, List, [], ◌∷◌, ◌++◌, length, map, nat_eq, get_or, take, Some, None, refl, ap, ◌∙◌}
+use Rattle.std.proofs.Common.{◌≡◌, ℕ, ◌+◌, ◌<◌, cond, List, [], ◌∷◌, ◌++◌, length, map, get_or, take, Some, None, refl, ap, ◌∙◌}
 use Rattle.std.proofs.lemmas.List.{reverse-append, take_more}
 use mathlib.Core.List.{reverse}
-use Rattle.std.specs.Map.{lookup}
 use Rattle.std.specs.Option.{option_or}
-use Rattle.std.specs.declared.vec.Vec.{Vec}
-use Rattle.std.specs.declared.alloc.Global.{Global}
-use Rattle.std.specs.Cmp.Lexicographic.{pointwise}
-use Rattle.indexmap.specs.IndexMap.{insert_entry}
-use Rattle.indexmap.proofs.MapLemmas.{insert_entry-absent, absent_from_lookup}
+use Rattle.sc_base.specs.NameMaps.{value_under}
+use Rattle.sc_base.specs.Texts.{same}
 use Rattle.sc_syntax.specs.declared.Kind.{Kind}
-use Rattle.sc_types.specs.Scopes.{Known, known, known_entry, kind_here, kind_in}
+use Rattle.sc_types.specs.Scopes.{Known, known_entry, kind_here, kind_in}
 
-pub kind_entries : (name : List ℕ) (es : List (Vec ℕ Global × Kind))
-    → lookup (λ (k : Vec ℕ Global). pointwise nat_eq name k.items) es ≡ kind_here (map known_entry es) name
+pub kind_entries : (name : List ℕ) (es : List (List ℕ × Kind)) → value_under es name ≡ kind_here (map known_entry es) name
 kind_entries name [] = refl
-kind_entries name (e ∷ es) = ap (cond (pointwise nat_eq name e.0.items) (Some e.1)) (kind_entries name es)
+kind_entries name (e ∷ es) = ap (cond (same name e.0) (Some e.1)) (kind_entries name es)
 
-map-push : (es : List (Vec ℕ Global × Kind)) (e : Vec ℕ Global × Kind) → map known_entry (es ++ e ∷ []) ≡ map known_entry es ++ known_entry e ∷ []
+pub map-push : (es : List (List ℕ × Kind)) (e : List ℕ × Kind) → map known_entry (es ++ e ∷ []) ≡ map known_entry es ++ known_entry e ∷ []
 map-push [] e = refl
 map-push (x ∷ es) e = ap (λ l. known_entry x ∷ l) (map-push es e)
-
-pub new_entry : (es : List (Vec ℕ Global × Kind)) (k : Vec ℕ Global) (kind : Kind) → kind_here (map known_entry es) k.items ≡ None
-    → map known_entry (insert_entry (λ (a b : Vec ℕ Global). pointwise nat_eq a.items b.items) es k kind) ≡ map known_entry es ++ known k.items kind ∷ []
-new_entry es k kind h =
-    let eq : Vec ℕ Global → Vec ℕ Global → Bool = λ a b. pointwise nat_eq a.items b.items in
-    ap (map known_entry) (insert_entry-absent eq k kind es (absent_from_lookup (eq k) es (kind_entries k.items es ∙ h))) ∙ map-push es (k, kind)
 
 reverse_one : {A : Type 0} (x : A) → reverse (x ∷ []) ≡ x ∷ []
 reverse_one x = refl

@@ -15,6 +15,5 @@ pub record FindsFirst (parts : List Part) (table : Table) : Type 0 where
   pub each : (name : List ℕ) → number_under table name ≡ first_at (has_name name) parts
 
 -- the first part of each name, and what each part takes
-pub record AreFirst (parts : List Part) (table : Table) (wants : List (List Want)) : Type 0 where
-  pub first : FindsFirst parts table
-  pub taken : wants ≡ map part_wants parts
+abbrev pub AreFirst : List Part → Table → List (List Want) → Type 0
+AreFirst parts table wants = FindsFirst parts table × (wants ≡ map part_wants parts)

@@ -1,9 +1,12 @@
 -- The parameters of a module over the open scopes.
 use Rattle.std.specs.Prelude.{◌≡◌, ℕ, suc, Bool, if◌then◌else◌, Option, Some, None, Result, Ok, List, [], ◌∷◌}
+use Rattle.sc_base.specs.NameMaps.{with_value}
 use Rattle.sc_syntax.specs.declared.Kind.{Kind}
 use Rattle.sc_syntax.specs.declared.Kind.TheVariants as kind
 use Rattle.sc_syntax.specs.declared.NumSort.TheVariants as num
 use Rattle.sc_syntax.specs.declared.Param.{Param}
+use Rattle.sc_syntax.specs.declared.Sort.{Sort}
+use Rattle.sc_syntax.specs.declared.Sort.TheVariants as sort
 use Rattle.sc_syntax.specs.Kind.{Kinds}
 use Rattle.sc_types.specs.declared.fault.TypeFault.{TypeFault}
 use Rattle.sc_types.specs.Checks.{first_fault}
@@ -19,9 +22,13 @@ use Rattle.sc_types.specs.Walking.{unless}
 pub record FindsLastInt (params : List Param) (table : Table) : Type 0 where
   pub each : (name : List ℕ) → number_under table name ≡ last_at (is_int_named name) params
 
--- one parameter more, at this position
-pub record Notes (old : Table) (p : Param) (i : ℕ) (new : Table) : Type 0 where
-  pub each : (name : List ℕ) → number_under new name ≡ (if is_int_named name p then Some i else number_under old name)
+-- the position put under the name of an `int` parameter
+abbrev pub noted : Table → Param → ℕ → Table
+noted table p i = by p.sort
+  where
+    by : Sort → Table
+    by sort.Int = with_value table p.name.text i
+    by _ = table
 
 abbrev pub or_int : Bool → Option Kind → Option Kind
 or_int later (Some k) = Some k

@@ -2,8 +2,6 @@
 use Rattle.std.specs.Prelude.{◌≡◌, ℕ, ◌<◌, ◌&&◌, is_some, if◌then◌else◌, Option, Some, None, Result, Ok, Err, List, [], ◌∷◌, ◌++◌, length, drop}
 use Rattle.std.specs.List.{list_any, AllByRecursion}
 use Rattle.std.specs.Option.{option_or}
-use Rattle.std.specs.declared.vec.Vec.{Vec}
-use Rattle.std.specs.declared.alloc.Global.{Global}
 use Rattle.sc_base.specs.Texts.{same}
 use Rattle.sc_syntax.specs.declared.Kind.{Kind}
 use Rattle.sc_syntax.specs.declared.Name.{Name}
@@ -21,8 +19,8 @@ abbrev pub known : List ℕ → Kind → Known
 known name kind = record { name = name; kind = kind }
 
 -- an entry of the map of a scope
-abbrev pub known_entry : Vec ℕ Global × Kind → Known
-known_entry entry = known entry.0.items entry.1
+abbrev pub known_entry : List ℕ × Kind → Known
+known_entry entry = known entry.0 entry.1
 
 -- the names of each scope, the innermost scope first
 abbrev pub Stack : Type 0

@@ -1,7 +1,8 @@
 -- Well typed sources, with the typed functions of their classical functions.
-use Rattle.std.specs.Prelude.{◌≡◌, ℕ, Option, Some, None, List, [], ◌∷◌, slice_get, refl}
+use Rattle.std.specs.Prelude.{◌≡◌, ℕ, Option, Some, None, List, [], ◌∷◌, slice_get, codes, refl}
 use Rattle.std.specs.Coded.{Coded, code_by, coded×, coded_list, coded_option}
 use Rattle.sc_syntax.specs.declared.Source.{Source}
+use Rattle.sc_syntax.specs.declared.Module.{Module}
 use Rattle.sc_syntax.specs.declared.Part.{Part}
 use Rattle.sc_syntax.specs.declared.Part.TheVariants as part
 use Rattle.sc_syntax.specs.declared.WordFn.{WordFn}
@@ -10,7 +11,9 @@ use Rattle.sc_syntax.specs.Alike.{Alike}
 use Rattle.sc_syntax.specs.Formed.{IsFormedSource}
 use Rattle.sc_word.specs.Typed.{TypedWords, TypesFn}
 use Rattle.sc_word.specs.Functions.{typed_words_code}
+use Rattle.sc_types.specs.FirstParts.{has_name}
 use Rattle.sc_types.specs.Positions.{first_at}
+use Rattle.sc_types.specs.Statements.{part_name}
 use Rattle.sc_types.specs.Sources.{is_main, fault_of}
 
 -- no check fails
@@ -24,6 +27,21 @@ HasOneFault = (a b : Source) → Alike a b → fault_of a ≡ fault_of b
 -- the position of the module `main`
 abbrev pub main_at : Source → Option ℕ
 main_at source = first_at is_main source.parts
+
+-- the position of the first part of a name
+abbrev pub part_at : Source → List ℕ → Option ℕ
+part_at source name = first_at (has_name name) source.parts
+
+-- the part at the position is the module `main`, which has no parameters
+pub record HasMain (source : Source) (i : ℕ) : Type 0 where
+  pub main : Module
+  pub stands : slice_get source.parts i ≡ Some (part.Module main)
+  pub named : main.name.text ≡ codes "main"
+  pub bare : main.params ≡ []
+
+-- no two parts have one name
+abbrev pub HaveDistinctNames : List Part → Type 0
+HaveDistinctNames parts = (i j : ℕ) (p q : Part) → slice_get parts i ≡ Some p → slice_get parts j ≡ Some q → part_name p ≡ part_name q → i ≡ j
 
 -- a classical function has its typed function, and a module has none
 abbrev pub IsTyped : Part → Option TypedWords → Type 0

@@ -1,5 +1,7 @@
 //! Why a source is not well typed.
-use sc_base::Place;
+ghost use Rattle.std.specs.Prelude.{◌≡◌};
+
+use sc_base::{Memory, Place};
 
 /// Why a source is refused, and where.
 #[derive(Clone, Copy, Debug, PartialEq, Eq)]
@@ -20,4 +22,14 @@ pub enum TypeFault {
     /// There is no module `main` without parameters.
     NoMain,
     Memory,
+}
+
+impl From<Memory> for TypeFault {
+    ghost use Rattle.sc_types.specs.declared.fault.TypeFault.TheVariants.{Memory as OutOfMemory};
+
+    ghost from_gives = { λ _ e. e ≡ OutOfMemory };
+
+    fn from(_: Memory) -> Self {
+        TypeFault::Memory
+    }
 }

@@ -1,16 +1,17 @@
 //! The parts of a source by their names.
-ghost use Rattle.std.specs.Prelude.{◌≡◌, ◌+◌, [], ◌∷◌, ◌++◌, OnOk, IfOk, IfErr, map, length, replicate, slice_get};
+ghost use Rattle.std.specs.Prelude.{◌≡◌, ◌≤◌, ◌+◌, [], ◌∷◌, ◌++◌, OnOk, IfOk, IfErr, map, length, replicate, slice_get};
 ghost use Rattle.std.specs.Option.{option_copied};
 ghost use Rattle.sc_types.specs.Positions.{first_at, is_position};
 ghost use Rattle.sc_types.specs.Sources.{name_of as name_of_part};
 ghost use Rattle.sc_types.specs.Statements.{param_want as wanted, part_wants as wanted_by};
-ghost use Rattle.sc_types.specs.FirstParts.{has_name};
+ghost use Rattle.sc_syntax.specs.FormedWords.{max_items};
+ghost use Rattle.sc_types.specs.FirstParts.{has_name, FindsFirst};
+ghost use Rattle.sc_types.specs.Tables.{with_new};
 
 use crate::definitions::Definitions;
 use crate::fault::TypeFault;
-use crate::table::Table;
 use crate::want::Want;
-use sc_base::{List, Text};
+use sc_base::{List, NameMap, Text};
 use sc_syntax::{Name, Param, Part, Sort, WordParam};
 use std::alloc::Global;
 use std::marker::Model;
@@ -19,7 +20,7 @@ use std::marker::Model;
 #[derive(Drop)]
 pub(crate) struct FirstParts<'a> {
     parts: &'a [Part],
-    first: Table,
+    first: &'a NameMap<u32>,
     wants: List<List<Want>>,
 }
 
@@ -36,20 +37,21 @@ impl<'a> Model for FirstParts<'a> {
 
     ghost view = { λ f. f.parts.now };
 
-    ghost invariant = { λ f. AreFirst f.parts.now f.first f.wants };
+    ghost invariant = { λ f. AreFirst f.parts.now f.first.now f.wants };
 }
 
 impl<'a> FirstParts<'a> {
-    pub(crate) fn new(alloc: Global, parts: &'a [Part]) -> Result<FirstParts<'a>, TypeFault>
+    /// Takes the first position of each name.
+    pub(crate) fn new(
+        alloc: Global,
+        parts: &'a [Part],
+        first: &'a NameMap<u32>,
+    ) -> Result<FirstParts<'a>, TypeFault>
+        requires { FindsFirst parts.now first.now }
         ensures ok { IfOk result (λ f. f ≡ parts.now) }
         ensures err { IfErr result (λ f. f ≡ TypeFault.Memory) }
     {
-        let mut first = Table::new(alloc);
-        let mut wants = List::new(alloc);
-        for (i, part) in parts.iter().enumerate() {
-            first.put_new(alloc, &name_of(part).text, i)?;
-            push(&mut wants, part_wants(alloc, part)?)?;
-        }
+        let wants = all_wants(alloc, parts)?;
         Ok(FirstParts {
             parts,
             first,
@@ -62,7 +64,7 @@ impl<'a> FirstParts<'a> {
         ensures { result ≡ is_position position (first_at (has_name name.now) self.now) }
     {
         match self.first.get(name) {
-            Some(first) => first == position,
+            Some(first) => *first as usize == position,
             None => false,
         }
     }
@@ -82,7 +84,7 @@ impl<'a> Definitions for FirstParts<'a> {
 
     fn wants(&self, name: &Text) -> Option<&[Want]> {
         match self.first.get(name) {
-            Some(first) => wants_at(&self.wants, first),
+            Some(first) => wants_at(&self.wants, *first as usize),
             None => None,
         }
     }
@@ -151,4 +153,48 @@ fn part_wants(alloc: Global, part: &Part) -> Result<List<Want>, TypeFault>
         Part::Module(module) => params_wants(alloc, module.params.as_slice()),
         Part::Words(function) => words_wants(alloc, function.params.as_slice()),
     }
+}
+
+/// What each part takes.
+fn all_wants(alloc: Global, parts: &[Part]) -> Result<List<List<Want>>, TypeFault>
+    ensures ok { IfOk result (λ w. w ≡ map wanted_by parts.now) }
+    ensures err { IfErr result (λ f. f ≡ TypeFault.Memory) }
+{
+    let mut wants = List::new(alloc);
+    for part in parts {
+        push(&mut wants, part_wants(alloc, part)?)?;
+    }
+    Ok(wants)
+}
+
+/// Puts the position under a name that has none.
+fn put_new(
+    alloc: Global,
+    first: &mut NameMap<u32>,
+    name: &Text,
+    position: u32,
+) -> Result<(), TypeFault>
+    ensures ok { OnOk result (first.new ≡ with_new first.old name.now position) }
+    ensures err { IfErr result (λ f. f ≡ TypeFault.Memory) }
+{
+    match first.place(name) {
+        Some(_) => Ok(()),
+        None => {
+            first.push(alloc, name, position)?;
+            Ok(())
+        }
+    }
+}
+
+/// For each name the position of the first part of that name.
+pub(crate) fn first_positions(alloc: Global, parts: &[Part]) -> Result<NameMap<u32>, TypeFault>
+    requires { length parts.now ≤ max_items }
+    ensures ok { IfOk result (FindsFirst parts.now) }
+    ensures err { IfErr result (λ f. f ≡ TypeFault.Memory) }
+{
+    let mut first = NameMap::new(alloc);
+    for (i, part) in parts.iter().enumerate() {
+        put_new(alloc, &mut first, &name_of(part).text, i as u32)?;
+    }
+    Ok(first)
 }

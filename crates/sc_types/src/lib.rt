@@ -16,7 +16,6 @@ mod scopes;
 mod set;
 mod source;
 mod statements;
-mod table;
 mod want;
 mod wires;
 

@@ -6,33 +6,37 @@ ghost use Rattle.sc_types.specs.Positions.{is_past};
 ghost use Rattle.sc_types.specs.Scopes.{StandsAtBody};
 ghost use Rattle.sc_types.specs.Sources.{length_checks, param_kind as kind_of_param, walk_params};
 ghost use Rattle.sc_types.specs.Tables.{number_under};
-ghost use Rattle.sc_types.specs.Parameters.{FindsLastInt, Notes, length_names, param_on, params_on};
+ghost use Rattle.sc_types.specs.Parameters.{FindsLastInt, noted, length_names, param_on, params_on};
 
 use crate::fault::TypeFault;
 use crate::names::Names;
 use crate::scopes::Scopes;
-use crate::table::Table;
 use crate::wires::int;
-use sc_base::Text;
+use sc_base::{NameMap, Text};
 use sc_syntax::{Kind, NumSort, Param, Sort};
 use std::alloc::Global;
 
-fn note(alloc: Global, last: &mut Table, param: &Param, position: usize) -> Result<(), TypeFault>
-    ensures ok { OnOk result (Notes last.old param.now position last.new) }
+fn note(
+    alloc: Global,
+    last: &mut NameMap<usize>,
+    param: &Param,
+    position: usize,
+) -> Result<(), TypeFault>
+    ensures ok { OnOk result (last.new ≡ noted last.old param.now position) }
     ensures err { IfErr result (λ f. f ≡ TypeFault.Memory) }
 {
     if let Sort::Int = param.sort {
-        last.put(alloc, &param.name.text, position)?;
+        last.insert(alloc, &param.name.text, position)?;
     }
     Ok(())
 }
 
 /// For each name the position of the last `int` parameter of that name.
-fn last_ints(alloc: Global, params: &[Param]) -> Result<Table, TypeFault>
+fn last_ints(alloc: Global, params: &[Param]) -> Result<NameMap<usize>, TypeFault>
     ensures ok { IfOk result (FindsLastInt params.now) }
     ensures err { IfErr result (λ f. f ≡ TypeFault.Memory) }
 {
-    let mut last = Table::new(alloc);
+    let mut last = NameMap::new(alloc);
     for (i, param) in params.iter().enumerate() {
         note(alloc, &mut last, param, i)?;
     }
@@ -44,7 +48,7 @@ fn last_ints(alloc: Global, params: &[Param]) -> Result<Table, TypeFault>
 #[derive(Drop)]
 struct LengthNames<'a> {
     scopes: &'a Scopes,
-    last: &'a Table,
+    last: &'a NameMap<usize>,
     position: usize,
 }
 
@@ -53,7 +57,7 @@ impl<'a> LengthNames<'a> {
         ensures { result ≡ is_past self.now.position (number_under self.now.last.now name.now) }
     {
         match self.last.get(name) {
-            Some(last) => self.position < last,
+            Some(last) => self.position < *last,
             None => false,
         }
     }
@@ -85,7 +89,12 @@ fn stated_length<N: Names>(names: &N, sort: &Sort) -> Result<(), TypeFault>
     Ok(())
 }
 
-fn length(scopes: &Scopes, last: &Table, position: usize, sort: &Sort) -> Result<(), TypeFault>
+fn length(
+    scopes: &Scopes,
+    last: &NameMap<usize>,
+    position: usize,
+    sort: &Sort,
+) -> Result<(), TypeFault>
     ensures { result_err result ≡ first_fault (length_checks (length_names last.now position scopes.now) sort.now) }
 {
     let names = LengthNames {
@@ -110,7 +119,7 @@ fn param_kind(sort: &Sort) -> Kind
 /// The length, and then the name, which is known from there on.
 fn declare_param(
     scopes: &mut Scopes,
-    last: &Table,
+    last: &NameMap<usize>,
     position: usize,
     param: &Param,
 ) -> Result<(), TypeFault>
@@ -123,7 +132,11 @@ fn declare_param(
 }
 
 /// The parameters in order, where the table has the positions of the last `int` parameters.
-fn declare_params(scopes: &mut Scopes, last: &Table, params: &[Param]) -> Result<(), TypeFault>
+fn declare_params(
+    scopes: &mut Scopes,
+    last: &NameMap<usize>,
+    params: &[Param],
+) -> Result<(), TypeFault>
     ensures ok { OnOk result (params_on last.now 0 scopes.old params.now ≡ Ok scopes.new) }
     ensures err { IfErr result (λ f. f ≢ TypeFault.Memory → params_on last.now 0 scopes.old params.now ≡ Err f) }
 {

@@ -6,6 +6,7 @@ ghost use Rattle.sc_syntax.specs.FormedWords.{IsFormedWordFn};
 ghost use Rattle.sc_word.specs.Typed.{TypesFn};
 ghost use Rattle.sc_types.specs.Checks.{first_fault};
 ghost use Rattle.sc_types.specs.Sources.{walk_module, of_word as fault_of_word, words_checks, part_checks, parts_checks, is_new_part};
+ghost use Rattle.sc_types.specs.FirstParts.{FindsFirst};
 ghost use Rattle.sc_types.specs.Typing.{IsTyped, AreTyped};
 
 use crate::definitions::Definitions;
@@ -13,7 +14,7 @@ use crate::fault::TypeFault;
 use crate::first_parts::{FirstParts, name_of, push};
 use crate::params::module_scope;
 use crate::statements::statements;
-use sc_base::List;
+use sc_base::{List, NameMap};
 use sc_syntax::{Module, Part, WordFn};
 use sc_word::{TypedFn, WordFault, typed};
 use std::alloc::Global;
@@ -88,13 +89,18 @@ fn new_part(parts: &FirstParts, position: usize, part: &Part) -> Result<(), Type
 }
 
 /// The parts in order, each with its name and then what is in it.
-pub(crate) fn check_parts(alloc: Global, parts: &[Part]) -> Result<List<Option<TypedFn>>, TypeFault>
-    requires { All IsFormedPart parts.now }
+pub(crate) fn check_parts(
+    alloc: Global,
+    parts: &[Part],
+    positions: &NameMap<u32>,
+) -> Result<List<Option<TypedFn>>, TypeFault>
+    requires formed { All IsFormedPart parts.now }
+    requires first { FindsFirst parts.now positions.now }
     ensures typed { IfOk result (AreTyped parts.now) }
     ensures none { OnOk result (first_fault (parts_checks parts.now [] parts.now) ≡ None) }
     ensures err { IfErr result (λ f. f ≢ TypeFault.Memory → first_fault (parts_checks parts.now [] parts.now) ≡ Some f) }
 {
-    let first = FirstParts::new(alloc, parts)?;
+    let first = FirstParts::new(alloc, parts, positions)?;
     let mut words = List::new(alloc);
     for (i, part) in parts.iter().enumerate() {
         new_part(&first, i, part)?;

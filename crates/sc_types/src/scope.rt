@@ -3,7 +3,7 @@ ghost use Rattle.std.specs.Prelude.{◌≡◌, ◌≢◌, [], ◌∷◌, ◌++�
 ghost use Rattle.sc_types.specs.Scopes.{known, kind_here, declared_here};
 
 use crate::fault::TypeFault;
-use indexmap::IndexMap;
+use sc_base::{NameMap, Text};
 use sc_syntax::{Kind, Name};
 use std::alloc::Global;
 use std::marker::Model;
@@ -11,7 +11,7 @@ use std::marker::Model;
 /// Names and kinds in the order in which they were declared.
 #[derive(Drop)]
 pub(crate) struct Scope {
-    kinds: IndexMap<Vec<u8>, Kind>,
+    kinds: NameMap<Kind>,
 }
 
 impl Model for Scope {
@@ -20,7 +20,7 @@ impl Model for Scope {
 
     ghost Value = { List Known };
 
-    ghost view = { λ s. map known_entry s.kinds.entries };
+    ghost view = { λ s. map known_entry s.kinds };
 }
 
 impl Scope {
@@ -29,28 +29,23 @@ impl Scope {
         ensures { result ≡ [] }
     {
         Scope {
-            kinds: IndexMap::new(alloc),
+            kinds: NameMap::new(alloc),
         }
     }
 
-    pub(crate) fn get(&self, name: &[u8]) -> Option<Kind>
+    pub(crate) fn get(&self, name: &Text) -> Option<Kind>
         ensures { result ≡ kind_here self.now name.now }
     {
         self.kinds.get(name).copied()
     }
 
-    fn push(&mut self, alloc: Global, name: &[u8], kind: Kind) -> Result<(), TypeFault>
+    fn push(&mut self, alloc: Global, name: &Text, kind: Kind) -> Result<(), TypeFault>
         requires { kind_here self.old name.now ≡ None }
         ensures ok { OnOk result (self.new ≡ self.old ++ known name.now kind ∷ []) }
         ensures err { IfErr result (λ f. f ≡ TypeFault.Memory) }
     {
-        let Ok(name) = name.to_vec(alloc) else {
-            return Err(TypeFault::Memory);
-        };
-        match self.kinds.insert(name, kind) {
-            Ok(_) => Ok(()),
-            Err(_) => Err(TypeFault::Memory),
-        }
+        self.kinds.push(alloc, name, kind)?;
+        Ok(())
     }
 
     /// Declares a name, with a copy of its text, where the scope does not have it.
@@ -63,11 +58,10 @@ impl Scope {
         ensures ok { OnOk result (declared_here self.old name.now kind ≡ Ok self.new) }
         ensures err { IfErr result (λ f. f ≢ TypeFault.Memory → declared_here self.old name.now kind ≡ Err f) }
     {
-        let text = name.text.as_bytes();
-        if self.get(text).is_some() {
+        if self.get(&name.text).is_some() {
             return Err(TypeFault::Redefined(name.place));
         }
-        self.push(alloc, text, kind)?;
+        self.push(alloc, &name.text, kind)?;
         Ok(())
     }
 }

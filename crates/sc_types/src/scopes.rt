@@ -75,15 +75,14 @@ impl Scopes {
     pub(crate) fn declared_kind(&self, name: &Text) -> Option<Kind>
         ensures { result ≡ kind_in self.now name.now }
     {
-        let bytes = name.as_bytes();
-        match self.innermost.get(bytes) {
+        match self.innermost.get(name) {
             Some(kind) => Some(kind),
-            None => kind_around(self.outer.as_slice(), bytes),
+            None => kind_around(self.outer.as_slice(), name),
         }
     }
 }
 
-fn kind_around(outer: &[Scope], name: &[u8]) -> Option<Kind>
+fn kind_around(outer: &[Scope], name: &Text) -> Option<Kind>
     ensures { result ≡ kind_in (reverse outer.now) name.now }
 {
     let mut depth = outer.len();

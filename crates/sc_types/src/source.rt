@@ -11,6 +11,7 @@ ghost use Rattle.sc_types.specs.Typing.{HasOneFault};
 
 use crate::checked::Checked;
 use crate::fault::TypeFault;
+use crate::first_parts::first_positions;
 use crate::parts::check_parts;
 use sc_syntax::{Part, Source};
 use std::alloc::Global;
@@ -57,7 +58,9 @@ pub fn check(alloc: Global, source: Source) -> Result<Checked, TypeFault>
     ensures fault { IfErr result (λ f. f ≢ TypeFault.Memory → fault_of source ≡ Some f) }
     ensures one_fault { HasOneFault }
 {
-    let words = check_parts(alloc, source.parts.as_slice())?;
-    let main = main_of(source.parts.as_slice())?;
-    Ok(Checked::new(source, words, main))
+    let parts = source.parts.as_slice();
+    let first = first_positions(alloc, parts)?;
+    let words = check_parts(alloc, parts, &first)?;
+    let main = main_of(parts)?;
+    Ok(Checked::new(source, words, first, main))
 }

@@ -10,11 +10,11 @@ pub returns-in-Some : goal.returns-in-Some
 returns-in-Some c =
     c.wants_at.ensures
     ∙ ap (option_and_then (slice_get c.self.inside.wants)) c.in-Some.ensures
-    ∙ wants_found c.self.inside.parts.now c.self.inside.first c.self.inside.wants c.args.name.now c.self.invariant
+    ∙ wants_found c.self.inside.parts.now c.self.inside.first.now c.self.inside.wants c.args.name.now c.self.invariant
     ∙ ap (λ (ps : List Part). named_wants ps c.args.name.now) c.self.view_is
 
 pub returns-in-None : goal.returns-in-None
 returns-in-None c =
     ap (option_and_then (slice_get c.self.inside.wants)) c.in-None.ensures
-    ∙ wants_found c.self.inside.parts.now c.self.inside.first c.self.inside.wants c.args.name.now c.self.invariant
+    ∙ wants_found c.self.inside.parts.now c.self.inside.first.now c.self.inside.wants c.args.name.now c.self.invariant
     ∙ ap (λ (ps : List Part). named_wants ps c.args.name.now) c.self.view_is
