@@ -10,4 +10,3 @@ pub mod OneAnswer
 pub mod OneCircuit
 mod PartLemmas
 mod RunLemmas
-mod SameTokens

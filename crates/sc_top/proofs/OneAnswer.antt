@@ -1,5 +1,6 @@
 -- A text has one answer at most.
 use Rattle.std.proofs.Common.{◌≡◌, ℕ, ◌≤◌, ◌<◌, List, length, Option, None, Some, refl, sym, ◌∙◌, ap, subst, inl, inr, arith}
+use Rattle.sc_base.specs.Limits.{most_source_bytes}
 use Rattle.sc_syntax.proofs.Once.{no_tokens}
 use Rattle.sc_syntax.specs.declared.Source.{Source}
 use Rattle.sc_syntax.specs.declared.Token.{Token}
@@ -11,8 +12,8 @@ use Rattle.sc_types.specs.Sources.{fault_of}
 use Rattle.sc_types.specs.declared.fault.TypeFault.{TypeFault}
 use Rattle.sc_top.proofs.FirstForm.{first_form_is_typed}
 use Rattle.sc_top.proofs.OneCircuit.{one_circuit}
-use Rattle.sc_top.proofs.SameTokens.{same_tokens, same_fault}
-use Rattle.sc_top.specs.Answers.{most_bytes, HasTree, IsMisparsed, IsMistaken, IsTypedText, IsUnbuilt, IsFirstSource, written, refused, IsAnswer, HasOneAnswer}
+use Rattle.sc_syntax.proofs.SameTokens.{same_tokens, same_fault}
+use Rattle.sc_top.specs.Answers.{HasTree, IsMisparsed, IsMistaken, IsTypedText, IsUnbuilt, IsFirstSource, written, refused, IsAnswer, HasOneAnswer}
 use Rattle.sc_top.specs.Fault.{token_fault, grammar_fault, type_fault}
 use Rattle.sc_top.specs.First.{Made, IsFirstForm}
 use Rattle.sc_top.specs.declared.fault.Fault.{Fault}
@@ -62,11 +63,11 @@ one_mistake text a b (inr (inr here)) (inr (inr there)) =
 
 -- it is too large, or it has a fault, or it is well typed and not of the first form
 data Why (text : List ℕ) : Fault → Type 0 where
-  large : most_bytes < length text → Why text SourceTooLarge
-  mistaken : (fault : Fault) → length text ≤ most_bytes → IsMistaken fault text → Why text fault
+  large : most_source_bytes < length text → Why text SourceTooLarge
+  mistaken : (fault : Fault) → length text ≤ most_source_bytes → IsMistaken fault text → Why text fault
   unbuilt : IsUnbuilt text → Why text Unbuilt
 
-within : (text : List ℕ) (fault : Fault) → IsMistaken fault text → length text ≤ most_bytes
+within : (text : List ℕ) (fault : Fault) → IsMistaken fault text → length text ≤ most_source_bytes
 within text fault (inl here) = here.within
 within text fault (inr (inl here)) = here.has.within
 within text fault (inr (inr here)) = here.has.has.within
@@ -93,7 +94,7 @@ one_why text _ _ (unbuilt here) (mistaken b le there) = absurd (not_mistaken tex
 one_why text _ _ (unbuilt here) (unbuilt there) = refl
 
 -- a source of the first form has no fault
-not_why : (text : List ℕ) (made : Made) (fault : Fault) → length text ≤ most_bytes → IsFirstSource text made → Why text fault → ⊥
+not_why : (text : List ℕ) (made : Made) (fault : Fault) → length text ≤ most_source_bytes → IsFirstSource text made → Why text fault → ⊥
 not_why text made _ le first (large past) = omega arith
 not_why text made _ le first (mistaken fault _ here) = not_mistaken text fault first.tokens (first_form_is_typed text made le first) here
 not_why text made _ le first (unbuilt here) =

@@ -7,7 +7,7 @@ use Rattle.sc_top.specs.Answers.{IsFirstSource}
 use Rattle.sc_top.specs.First.{Made, nothing_made, after, after_all, IsFirstForm}
 use Rattle.sc_top.specs.Lexemes.{Part, part_lexemes, lexemes, ending}
 use Rattle.sc_top.proofs.BodyLemmas.{Body, body_less, first_body, ending_no_part}
-use Rattle.sc_top.proofs.SameTokens.{same_tokens}
+use Rattle.sc_syntax.proofs.SameTokens.{same_tokens}
 
 pub same_made : {a b : Made} → Some a ≡ Some b → a ≡ b
 same_made {a} {b} is = cc

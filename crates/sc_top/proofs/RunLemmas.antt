@@ -1,10 +1,11 @@
 -- Why a request is refused.
 use Rattle.std.proofs.Common.{◌≡◌, ℕ, ◌≤◌, ◌≢◌, ◌⊎◌, length, List, Option, Some, None, refl, ap, sym, ◌∙◌, subst, inl, inr}
+use Rattle.sc_base.specs.Limits.{most_source_bytes}
 use Rattle.sc_syntax.specs.Lexing.{HasFault}
 use Rattle.sc_syntax.specs.declared.Token.{Token}
 use Rattle.sc_syntax.specs.declared.LexFault.{LexFault}
 use Rattle.sc_syntax.specs.declared.LexFault.TheVariants as lexing
-use Rattle.sc_top.specs.Answers.{request, Asks, most_bytes, IsFirstSource, HasTokens, HasTree, IsTooLarge, IsMisparsed, IsMistyped, IsMistaken, IsUnbuilt, IsWritten, Cause, Answer, written, refused, IsAnswer}
+use Rattle.sc_top.specs.Answers.{request, Asks, IsFirstSource, HasTokens, HasTree, IsTooLarge, IsMisparsed, IsMistyped, IsMistaken, IsUnbuilt, IsWritten, Cause, Answer, written, refused, IsAnswer}
 use Rattle.sc_parse.specs.Grammar.{IsFault as LeavesGrammar}
 use Rattle.sc_parse.specs.declared.source.ParseFault.{ParseFault}
 use Rattle.sc_parse.specs.declared.source.ParseFault.TheVariants as parsing
@@ -21,7 +22,7 @@ use Rattle.sc_top.specs.declared.status.Status.TheVariants as status
 use Rattle.sc_top.proofs.OneAnswer.{one_answer}
 
 -- a fault of the tokens is why the request is refused
-pub lexing_cause : (fault : LexFault) (source : List ℕ) → length source ≤ most_bytes → (fault ≢ lexing.Memory → HasFault source fault) →
+pub lexing_cause : (fault : LexFault) (source : List ℕ) → length source ≤ most_source_bytes → (fault ≢ lexing.Memory → HasFault source fault) →
     Cause ⊥ (λ (Says : List ℕ → Type 0). Says source) ⊥ ⊥ (token_fault fault)
 lexing_cause (lexing.BadByte place) source within has = inl (record { within = within; mistake = lexing.BadByte place; has = has (λ is. cc); is = refl })
 lexing_cause (lexing.OpenComment place) source within has = inl (record { within = within; mistake = lexing.OpenComment place; has = has (λ is. cc); is = refl })
@@ -119,7 +120,7 @@ same_refusal : {a b : Fault} → refused a ≡ refused b → a ≡ b
 same_refusal {a} {b} is = cc
 
 -- a source of the first form is not refused: only memory can be wanting where no count rose
-pub only_memory : {R S : Type 0} {held : Option (List ℕ)} {text : List ℕ} {made : Made} → held ≡ Some text → length text ≤ most_bytes → IsFirstSource text made → (R → ⊥) → (S → ⊥) →
+pub only_memory : {R S : Type 0} {held : Option (List ℕ)} {text : List ℕ} {made : Made} → held ≡ Some text → length text ≤ most_source_bytes → IsFirstSource text made → (R → ⊥) → (S → ⊥) →
     (fault : Fault) → Cause ⊥ (λ (Says : List ℕ → Type 0). (other : List ℕ) × (held ≡ Some other) × Says other) R S fault → status_of fault ≡ status.Memory
 only_memory {made = made} holds within first read write fault cause = elim (answered {answer = written made} holds (within, first) read write fault cause) [
   | inl is ↦ ap status_of is

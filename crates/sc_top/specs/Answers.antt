@@ -1,6 +1,7 @@
 -- What a request is answered.
 use Rattle.std.specs.Prelude.{◌≡◌, ◌≢◌, ℕ, ◌<◌, ◌≤◌, ◌⊎◌, ◌==◌, ◌&&◌, not, Bool, true, List, [], ◌∷◌, Option, None, Some, codes, length, if◌then◌else◌}
 use Rattle.std.specs.Str.{bytes_eq}
+use Rattle.sc_base.specs.Limits.{most_source_bytes}
 use Rattle.sc_gate.specs.Lines.{flat_text}
 use Rattle.sc_syntax.specs.Lexing.{IsLexed, HasFault}
 use Rattle.sc_syntax.specs.declared.LexFault.{LexFault}
@@ -33,10 +34,6 @@ request words = None
 abbrev pub file_of : Request → List ℕ
 file_of (Flat file) = file
 
--- the most bytes of a source
-abbrev pub most_bytes : ℕ
-most_bytes = 16777216
-
 -- a source of the first form: its tokens are, and make these qubits and gates
 pub record IsFirstSource (source : List ℕ) (made : Made) : Type 0 where
   pub tokens : List Token
@@ -53,18 +50,18 @@ pub record Asks (held : List ℕ → Option (List ℕ)) (words : List (List ℕ)
 
 -- the text has more bytes than a source may have
 abbrev pub IsTooLarge : List ℕ → Type 0
-IsTooLarge text = most_bytes < length text
+IsTooLarge text = most_source_bytes < length text
 
 -- the tokens of the text have this fault
 pub record IsMisread (fault : Fault) (text : List ℕ) : Type 0 where
-  pub within : length text ≤ most_bytes
+  pub within : length text ≤ most_source_bytes
   pub mistake : LexFault
   pub has : HasFault text mistake
   pub is : fault ≡ token_fault mistake
 
 -- the text has these tokens
 pub record HasTokens (text : List ℕ) (tokens : List Token) : Type 0 where
-  pub within : length text ≤ most_bytes
+  pub within : length text ≤ most_source_bytes
   pub lexed : IsLexed text tokens
 
 -- the tokens of the text leave the grammar with this fault
@@ -113,7 +110,7 @@ pub record IsUnbuilt (text : List ℕ) : Type 0 where
 -- the text is a source of the first form, and its flat text was written
 pub record IsWritten (Written : List ℕ → Type 0) (text : List ℕ) : Type 0 where
   pub made : Made
-  pub within : length text ≤ most_bytes
+  pub within : length text ≤ most_source_bytes
   pub first : IsFirstSource text made
   pub written : Written (flat_text made.qubits 0 made.gates)
 
@@ -136,7 +133,7 @@ pub data Answer : Type 0 where
 
 -- the text makes this, or it has this fault
 abbrev pub IsAnswer : List ℕ → Answer → Type 0
-IsAnswer text (written made) = (length text ≤ most_bytes) × IsFirstSource text made
+IsAnswer text (written made) = (length text ≤ most_source_bytes) × IsFirstSource text made
 IsAnswer text (refused fault) = (fault ≢ Memory) × Cause ⊥ (λ (Says : List ℕ → Type 0). Says text) ⊥ ⊥ fault
 
 -- a text has one answer at most
@@ -145,4 +142,4 @@ HasOneAnswer = (text : List ℕ) (a b : Answer) → IsAnswer text a → IsAnswer
 
 -- a source of the first form is in the grammar and well typed
 abbrev pub FirstFormIsTyped : Type 0
-FirstFormIsTyped = (text : List ℕ) (made : Made) → length text ≤ most_bytes → (first : IsFirstSource text made) → IsTypedText text first.tokens
+FirstFormIsTyped = (text : List ℕ) (made : Made) → length text ≤ most_source_bytes → (first : IsFirstSource text made) → IsTypedText text first.tokens

@@ -3,8 +3,7 @@ ghost use Rattle.std.specs.Prelude.{◌≡◌, ◌≤◌, ◌++◌, length, ◌+
 ghost use Rattle.sc_top.specs.Fault.{status_of, fault_line, fault_name, is_limit, mistake_name, place_text, token_fault, grammar_fault, type_fault};
 
 use crate::status::Status;
-use sc_base::Place;
-use sc_gate::Line;
+use sc_base::{LineBuffer, Place};
 use sc_parse::ParseFault;
 use sc_syntax::LexFault;
 use sc_types::TypeFault;
@@ -152,10 +151,10 @@ impl Fault {
     }
 
     /// The line that tells the fault.
-    pub(crate) fn line(&self) -> Line
+    pub(crate) fn line(&self) -> LineBuffer
         ensures { result ≡ fault_line self.now }
     {
-        let mut line = Line::new();
+        let mut line = LineBuffer::new();
         line.push(b"scaff: ");
         if let Fault::At(_, place) = self {
             push_place(&mut line, *place);
@@ -167,7 +166,7 @@ impl Fault {
 }
 
 /// Appends a place, as a line, a column and a space.
-fn push_place(line: &mut Line, place: Place)
+fn push_place(line: &mut LineBuffer, place: Place)
     requires { length line.old ≤ 40 }
     ensures text { line.new ≡ line.old ++ place_text place }
     ensures short { length line.new ≤ length line.old + 23 }

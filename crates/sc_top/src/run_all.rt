@@ -2,10 +2,11 @@
 ghost use Rattle.std.specs.Prelude.{◌≡◌, ◌≢◌, ◌≤◌, ◌⊎◌, ◌↔◌, ℕ, List, map, length, true, false, IsTrue, Some, None, OnOk, OnErr, IfOk, IfErr, IsErrOf, Err};
 ghost use Rattle.std.specs.Rc.{rc_str_bytes};
 ghost use Rattle.sc_base.specs.Causes.{Rose, Stood, HasCause};
+ghost use Rattle.sc_base.specs.Limits.{most_source_bytes};
 ghost use Rattle.sc_base.specs.Output.{Wrote, WrotePrefix};
 ghost use Rattle.sc_gate.specs.Lines.{flat_text};
 ghost use Rattle.sc_syntax.specs.TokenLists.{AreRead};
-ghost use Rattle.sc_top.specs.Answers.{request, most_bytes, IsFirstSource, HasTokens, IsOther, Asks, IsWritten, Cause, IsAnswer, refused, HasOneAnswer, FirstFormIsTyped};
+ghost use Rattle.sc_top.specs.Answers.{request, IsFirstSource, HasTokens, IsOther, Asks, IsWritten, Cause, IsAnswer, refused, HasOneAnswer, FirstFormIsTyped};
 ghost use Rattle.sc_top.specs.Fault.{status_of, fault_line, Tells};
 ghost use Rattle.sc_top.specs.First.{Made};
 ghost use Rattle.sc_top.specs.declared.fault.Fault.{Fault as AnyFault};
@@ -15,16 +16,15 @@ use crate::form::first_form;
 use crate::maker::FormFault;
 use crate::request::{WordsFault, read_words};
 use crate::status::Status;
-use sc_base::{List, ReadAllFault, Shelf, Sink, Text, WriteFault, read_all, write_all};
+use sc_base::{
+    List, MOST_SOURCE_BYTES, ReadAllFault, Shelf, Sink, Text, WriteFault, read_all, write_all,
+};
 use sc_gate::{Gate, write_flat};
 use sc_parse::parse;
 use sc_syntax::{Tokens, lex};
 use sc_types::check;
 use std::alloc::Global;
 use std::rc::RcStr;
-
-/// The most bytes of a source.
-const MOST_BYTES: u64 = 16_777_216;
 
 /// Writes the flat text of a circuit, and ends the sink. Takes no memory.
 fn print<O: Sink>(qubits: u32, gates: &[Gate], out: &mut O) -> Result<(), WriteFault>
@@ -47,12 +47,12 @@ fn read_source<F: Shelf>(alloc: Global, file: &[u8], shelf: &mut F) -> Result<Te
     ensures held { F.held shelf.new ≡ F.held shelf.old }
     ensures tells_held { F.tells_held shelf.new ≡ F.tells_held shelf.old }
     ensures later { F.faults shelf.old ≤ F.faults shelf.new }
-    ensures within { IfOk result (λ text. length text ≤ most_bytes) }
+    ensures within { IfOk result (λ text. length text ≤ most_source_bytes) }
     ensures whole { IfOk result (λ text. IsTrue (F.tells_held shelf.old) → F.held shelf.old file.now ≡ Some text) }
     ensures cause { IfErr result (Cause ⊥ (λ Says. IsTrue (F.tells_held shelf.old) → (text : List ℕ) × (F.held shelf.old file.now ≡ Some text) × Says text)
         (Rose (F.faults shelf.old) (F.faults shelf.new)) ⊥) }
 {
-    match read_all(alloc, shelf, file, MOST_BYTES) {
+    match read_all(alloc, shelf, file, MOST_SOURCE_BYTES as u64) {
         Ok(text) => Ok(text),
         Err(ReadAllFault::ReadFault) => Err(Fault::ReadFault),
         Err(ReadAllFault::SourceTooLarge) => Err(Fault::SourceTooLarge),
@@ -62,7 +62,7 @@ fn read_source<F: Shelf>(alloc: Global, file: &[u8], shelf: &mut F) -> Result<Te
 
 /// The number of qubits and the gates of a source of the first form.
 fn circuit(alloc: Global, source: &[u8]) -> Result<(u32, List<Gate>), Fault>
-    requires { length source.now ≤ most_bytes }
+    requires { length source.now ≤ most_source_bytes }
     ensures made { IfOk result (λ r. (made : Made) × IsFirstSource source.now made × (made.qubits ≡ r.0) × (made.gates ≡ r.1)) }
     ensures cause { IfErr result (Cause ⊥ (λ Says. Says source.now) ⊥ ⊥) }
 {
@@ -187,7 +187,7 @@ pub fn run<F: Shelf, O: Sink, E: Sink>(
 
     // Where nothing fails, a source of the first form is done, or memory is wanting.
     ensures complete { (name text : List ℕ) (made : Made) → request (map rc_str_bytes words.now) ≡ Some name → IsTrue (F.tells_held shelf.old) →
-        F.held shelf.old name ≡ Some text → length text ≤ most_bytes → IsFirstSource text made →
+        F.held shelf.old name ≡ Some text → length text ≤ most_source_bytes → IsFirstSource text made →
         Stood (F.faults shelf.old) (F.faults shelf.new) → Stood (O.faults out.old) (O.faults out.new) →
         (result ≡ Status.Done) ⊎ (result ≡ Status.Memory) }
 
