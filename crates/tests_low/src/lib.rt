@@ -1,10 +1,12 @@
-//! Tests of the lists, sinks, gates, tables and tokens below everything.
+//! Tests of the lists, sinks, gates, observers, tables and tokens below everything.
 #![tactic(auto)]
 
 #[cfg(test)]
 mod base;
 #[cfg(test)]
 mod gate;
+#[cfg(test)]
+mod probe;
 #[cfg(test)]
 mod syntax;
 #[cfg(test)]

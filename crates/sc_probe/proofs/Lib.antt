@@ -1,0 +1,11 @@
+pub mod BoundLemmas
+pub mod BurstLaw
+pub mod Fronts
+pub mod KindTexts
+pub mod KindsLaw
+pub mod PlaceLemmas
+pub mod ReachLaw
+pub mod SeenLemmas
+pub mod StateLemmas
+pub mod TextLaw
+pub mod WindowLaw

@@ -1,0 +1,4 @@
+pub mod Probes
+pub mod Rules
+pub mod States
+pub mod Watched
