@@ -1,7 +1,6 @@
 -- Several texts in a row, gathered.
 use Rattle.std.proofs.Common.{◌≡◌, ℕ, ◌+◌, ◌<◌, ◌≤◌, Bool, List, [], ◌++◌, length, get_or, take, drop, refl, sym, ap, ◌∙◌, append_assoc}
 use Rattle.std.proofs.lemmas.List.{append-nil, take_all}
-use Rattle.std.proofs.Math.Seq.{take-append_seam}
 use Rattle.std.specs.Prelude.{flat_map}
 use Rattle.sc_base.specs.Output.{Wrote, WrotePrefix}
 use Rattle.sc_base.proofs.OutputLemmas.{wrote_then, wrote_nothing}
@@ -115,7 +114,3 @@ gathers_fault f xs i d y within is first second =
 pub gathers_done : {S A : Type 0} {tells : S → Bool} {bytes : S → List ℕ} {old new : S} {h0 h1 : List ℕ} (f : A → List ℕ) (xs : List A) (i : ℕ) → length xs ≤ i →
     Gathers tells bytes old new h0 h1 (flat_map f (take i xs)) → Gathers tells bytes old new h0 h1 (flat_map f xs)
 gathers_done f xs i over first = gathers_as _ (ap (flat_map f) (sym (take_all i xs over))) first
-
--- a text that is cut back to what it was
-pub cut_back : (held more lost : List ℕ) (n : ℕ) → more ≡ held ++ lost → n ≡ length held → take n more ≡ held
-cut_back held more lost n grown counted = rw (grown, counted) (take-append_seam held lost)

@@ -5,8 +5,8 @@ use Rattle.std.proofs.lemmas.Fmt.{length-decimal-le}
 use Rattle.sc_base.specs.declared.names.GateName.{GateName}
 use Rattle.sc_base.specs.declared.names.GateName.TheVariants as name
 use Rattle.sc_base.specs.GateNames.{gate_text}
-use Rattle.sc_base.specs.Decimals.{units_text, fixed_text}
-use Rattle.sc_base.proofs.FixedLemmas.{length-units_text}
+use Rattle.sc_base.specs.Decimals.{twelve_digits, units_text, fixed_text}
+use Rattle.sc_base.proofs.DecimalLemmas.{length-twelve_digits}
 use Rattle.sc_gate.specs.declared.gate.Wire.{Wire}
 use Rattle.sc_gate.specs.declared.gate.Gate.{Gate}
 use Rattle.sc_gate.specs.Gates.{name_of}
@@ -18,10 +18,10 @@ pub short_number : (n : ℕ) → n < 2 ^ 32 → length (decimal n) ≤ 10
 short_number n small = length-decimal-le 10 n (omega arith) (omega (arith, small)) (omega (arith, small))
 
 short_units : (n : ℕ) → n ≤ 2 ^ 63 → length (units_text n) ≤ 20
+unfolding units_text
 short_units n small =
-    let whole : length (decimal (n / 10 ^ 12)) ≤ 7 = length-decimal-le 7 (n / 10 ^ 12) (omega arith) (omega (arith, small)) (omega (arith, small)) in
-    let text = length-units_text n in
-    omega (arith, whole, text)
+    let whole = length-decimal-le 7 (n / 10 ^ 12) (omega arith) (omega (arith, small)) (omega (arith, small)) in
+    omega (arith, length-append (decimal (n / 10 ^ 12)) (46 ∷ twelve_digits (n % 10 ^ 12)), length-twelve_digits (n % 10 ^ 12) (omega arith), whole)
 
 -- an angle
 pub short_fixed : (z : ℤ) → FitsSigned w64 z → length (fixed_text z) ≤ 21
@@ -57,4 +57,4 @@ pub short_line : (g : Gate) → length (wire_text g.a) ≤ 11 → length (after_
     length (after_commas (map wire_text (option_to_list g.c))) ≤ 12 → length (after_commas (value_texts g.kind)) ≤ 22 → length (gate_line g) ≤ 66
 short_line g a b c value =
     let name = short_name (name_of g.kind) in
-    rw (line_in_parts g) (omega (arith, name, a, b, c, value))
+    rw (line_in_parts g) (simp length-append (omega (arith, name, a, b, c, value)))

@@ -1,2 +1,3 @@
 mod GatherLemmas
+mod LengthLemmas
 mod TextLemmas

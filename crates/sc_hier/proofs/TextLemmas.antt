@@ -27,15 +27,6 @@ joined_after f x xs = joined_by_commas (f x) (map f xs) ∙ ap (λ t. f x ++ t) 
 abbrev pub joined_args : List Arg → List ℕ
 joined_args args = join_with_byte 44 (map arg_text args)
 
--- a module as it is composed: its first line, its items, and `end`
-pub module_in_parts : (number : ℕ) (m : Module) →
-    module_text number m
-    ≡ (codes "module " ++ decimal number ++ codes " " ++ signature m.key ++ codes "\n") ++ (flat_map item_line m.items ++ codes "end\n")
-module_in_parts number m =
-    ap (λ t. codes "module " ++ t)
-    (ap (λ t. decimal number ++ (32 ∷ t)) (sym (append_assoc (signature m.key) (codes "\n") (flat_map item_line m.items ++ codes "end\n")))
-    ∙ sym (append_assoc (decimal number) (codes " " ++ signature m.key ++ codes "\n") (flat_map item_line m.items ++ codes "end\n")))
-
 -- modules in two parts
 pub modules_text-append : (number : ℕ) (ms ns : List Module) →
     modules_text number (ms ++ ns) ≡ modules_text number ms ++ modules_text (number + length ms) ns
@@ -44,23 +35,9 @@ modules_text-append number (m ∷ ms) ns =
     ap (λ t. module_text number m ++ t) (modules_text-append (number + 1) ms ns ∙ ap (λ n. modules_text (number + 1) ms ++ modules_text n ns) (omega arith))
     ∙ sym (append_assoc (module_text number m) (modules_text (number + 1) ms) (modules_text (number + length (m ∷ ms)) ns))
 
--- a line with turns as it is composed
-pub repeat_in_parts : (turns : ℕ) (line : List ℕ) → repeat_line turns line ≡ (codes "repeat " ++ decimal turns ++ codes " ") ++ line
-repeat_in_parts turns line = ap (λ t. codes "repeat " ++ t) (sym (append_assoc (decimal turns) (codes " ") line))
-
--- a call line as it is composed
-pub call_in_parts : (callee : ℕ) (wires : List Wire) → call_line callee wires ≡ (codes "call " ++ decimal callee) ++ (wires_text wires ++ codes "\n")
-call_in_parts callee wires = refl
-
 -- wires after a space, as they are composed
 pub wires_in_parts : (w : Wire) (wires : List Wire) → wires_text (w ∷ wires) ≡ (codes " " ++ wire_text w) ++ flat_map (λ v. 44 ∷ wire_text v) wires
 wires_in_parts w wires = ap (λ t. codes " " ++ t) (joined_after wire_text w wires)
-
--- the first line of a module as it is composed
-pub heading_in_parts : (number : ℕ) (key : Key) →
-    codes "module " ++ decimal number ++ codes " " ++ signature key ++ codes "\n"
-    ≡ (codes "module " ++ decimal number ++ codes " ") ++ (signature key ++ codes "\n")
-heading_in_parts number key = ap (λ t. codes "module " ++ t) (sym (append_assoc (decimal number) (codes " ") (signature key ++ codes "\n")))
 
 -- the first modules and one more
 pub modules_more : (ms : List Module) (i : ℕ) (m : Module) → slice_get ms i ≡ Some m →
@@ -71,14 +48,14 @@ modules_more ms i m at =
     ∙ (modules_text-append 0 (take i ms) (get_or ms i m ∷ [])
     ∙ ap (λ t. modules_text 0 (take i ms) ++ t)
     (append-nil (module_text (0 + length (take i ms)) (get_or ms i m))
-    ∙ (ap (λ n. module_text n (get_or ms i m)) (length-take-le i ms (omega (arith, within)))
+    ∙ (ap (λ n. module_text n (get_or ms i m)) (omega (arith, length-take-le i ms (omega (arith, within))))
     ∙ ap (module_text i) (get_or_from_slice_get ms i m m at)))))
 
 -- the modules before a place, and those from it on
 pub modules_cut : (ms : List Module) (i : ℕ) → i ≤ length ms → modules_text 0 ms ≡ modules_text 0 (take i ms) ++ modules_text i (drop i ms)
 modules_cut ms i within =
     ap (modules_text 0) (sym (take-append-drop i ms))
-    ∙ (modules_text-append 0 (take i ms) (drop i ms) ∙ ap (λ n. modules_text 0 (take i ms) ++ modules_text n (drop i ms)) (length-take-le i ms within))
+    ∙ (modules_text-append 0 (take i ms) (drop i ms) ∙ ap (λ n. modules_text 0 (take i ms) ++ modules_text n (drop i ms)) (omega (arith, length-take-le i ms within)))
 
 -- a fault in the module at a place: the modules before it, it, and those behind it
 pub modules_around : (ms : List Module) (i : ℕ) (m : Module) → slice_get ms i ≡ Some m →
@@ -89,7 +66,7 @@ modules_around ms i m at =
 some_is : {A : Type 0} (a b : A) → Some a ≡ Some b → a ≡ b
 some_is a b e = cc
 
-module_with : Key → List Item → Module
+abbrev module_with : Key → List Item → Module
 module_with key items = record { key = key; items = items }
 
 -- the key and the body of one place are those of one module
@@ -103,7 +80,7 @@ module_of_parts None key body is_key is_body = absurd (none-some key is_key)
 -- an element that is within a list is found
 pub is_found : {A B : Type 0} (answer : Option (Bor A)) (f : B → A) (xs : List B) (i : ℕ) → i < length xs →
     option_copied answer ≡ option_map f (slice_get xs i) → IsSome answer
-is_found (Some x) f xs i within same = tt
+is_found (Some x) f xs i within same = refl
 is_found None f xs i within same = elim ((slice_get_cases xs i).1) [
   | inl p ↦ absurd (none-some (f p.0) (same ∙ ap (option_map f) p.2))
   | inr p ↦ absurd (omega (arith, within, p.0))

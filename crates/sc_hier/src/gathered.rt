@@ -81,6 +81,7 @@ impl Gathered {
             self.append(piece);
             return Ok(());
         }
-        write_all(out, piece)
+        write_all(out, piece)?;
+        Ok(())
     }
 }

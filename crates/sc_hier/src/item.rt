@@ -5,10 +5,11 @@ ghost use Rattle.sc_gate.specs.Lines.{wire_text, gate_line, number_line};
 ghost use Rattle.sc_deck.specs.Hierarchical.{wires_text, call_line, fresh_word, repeat_line, item_line};
 ghost use Rattle.sc_hier.specs.Gathering.{Gathers, GathersPrefix};
 
+use crate::gate_line::line_of;
 use crate::gathered::Gathered;
 use sc_base::{Class, LineBuffer, Sink, WriteFault};
 use sc_deck::Item;
-use sc_gate::{Gate, Wire, push_wire, write_gate};
+use sc_gate::{Gate, Wire, push_wire};
 
 /// The line of so many fresh wires of a class.
 fn fresh_line(class: Class, n: u32) -> LineBuffer
@@ -90,24 +91,6 @@ fn push_wires<O: Sink>(wires: &[Wire], held: &mut Gathered, out: &mut O) -> Resu
     Ok(())
 }
 
-/// Appends the line of a gate. Where there is no room for it, it is handed over behind what was held.
-fn push_gate<O: Sink>(gate: &Gate, held: &mut Gathered, out: &mut O) -> Result<(), WriteFault>
-    requires open { O.is_ended out.old ≡ false }
-    ensures open { O.is_ended out.new ≡ false }
-    ensures gathered { OnOk result (Gathers O.tells O.bytes out.old out.new held.old held.new (gate_line gate.now)) }
-    ensures prefix { GathersPrefix O.tells O.bytes out.old out.new held.old (gate_line gate.now) }
-    ensures cause { HasCause (O.faults out.old) (O.faults out.new) result }
-{
-    let count = held.len();
-    let Err(_) = write_gate(gate, held) else {
-        return Ok(());
-    };
-    held.cut(count);
-    held.flush(out)?;
-    write_gate(gate, out)?;
-    Ok(())
-}
-
 /// Appends the line of a call.
 fn push_call<O: Sink>(
     callee: u32,
@@ -141,7 +124,7 @@ fn push_gates<O: Sink>(
     ensures cause { HasCause (O.faults out.old) (O.faults out.new) result }
 {
     held.push(turns_word(turns).as_bytes(), out)?;
-    push_gate(gate, held, out)?;
+    held.push(line_of(gate).as_bytes(), out)?;
     Ok(())
 }
 
@@ -174,7 +157,7 @@ fn push_item<O: Sink>(item: &Item, held: &mut Gathered, out: &mut O) -> Result<(
 {
     match item {
         Item::Fresh(class, n) => held.push(fresh_line(*class, *n).as_bytes(), out),
-        Item::Gate(gate) => push_gate(gate, held, out),
+        Item::Gate(gate) => held.push(line_of(gate).as_bytes(), out),
         Item::Call(callee, wires) => push_call(*callee, wires.as_slice(), held, out),
         Item::Gates(gate, turns) => push_gates(gate, *turns, held, out),
         Item::Calls(callee, wires, turns) => {

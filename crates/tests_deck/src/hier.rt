@@ -82,6 +82,21 @@ fn deck_of_f(alloc: Global) -> Result<Deck, Memory> {
     Ok(deck)
 }
 
+fn key_with_a_long_name(alloc: Global) -> Result<Key, Memory>
+    ensures { IfOk result (λ k. k.args ≡ []) }
+{
+    Ok(Key {
+        name: Text::from_bytes(alloc, &[b'a'; 9000])?,
+        args: List::new(alloc),
+    })
+}
+
+fn deck_with_a_long_name(alloc: Global) -> Result<Deck, Memory> {
+    let mut deck = Deck::new(alloc);
+    deck.push_body(key_with_a_long_name(alloc)?, Body::new(alloc, 0, 0))?;
+    Ok(deck)
+}
+
 #[test]
 fn a_text_with_turns(rt: HostRuntime) -> Result<(), Fail> {
     let deck = deck_of_g(rt.alloc())?;
@@ -121,5 +136,41 @@ fn a_prefix_at_a_fault(rt: HostRuntime) -> Result<(), Fail> {
     let mut sink = MemSink::new(rt.alloc(), 200, 9)?;
     assert!(rt; write_hier(&deck, &mut sink).is_err());
     assert_eq!(rt; sink.written(), b"hier 2\nmo".as_slice());
+    Ok(())
+}
+
+/// A sink that takes one byte a call and fails at its third call has two bytes of the text.
+#[test]
+fn a_fault_at_the_third_byte(rt: HostRuntime) -> Result<(), Fail> {
+    let deck = deck_of_g(rt.alloc())?;
+    let mut sink = MemSink::new(rt.alloc(), 1, 200)?;
+    sink.fail_at(3)?;
+    assert!(rt; write_hier(&deck, &mut sink).is_err());
+    assert_eq!(rt; sink.written(), b"hi".as_slice());
+    Ok(())
+}
+
+/// Lines are handed over together: a sink that would fail at its second call has the whole text.
+#[test]
+fn one_call_for_a_short_text(rt: HostRuntime) -> Result<(), Fail> {
+    let deck = deck_of_g(rt.alloc())?;
+    let mut sink = MemSink::new(rt.alloc(), 200, 200)?;
+    sink.fail_at(2)?;
+    assert!(rt; write_hier(&deck, &mut sink).is_ok());
+    assert_eq!(rt; sink.written().len(), 103);
+    Ok(())
+}
+
+/// A piece that is longer than all that is gathered is handed over as it stands, behind what was gathered.
+#[test]
+fn a_long_name(rt: HostRuntime) -> Result<(), Fail> {
+    let deck = deck_with_a_long_name(rt.alloc())?;
+    let mut whole = MemSink::new(rt.alloc(), 10000, 10000)?;
+    write_hier(&deck, &mut whole)?;
+    assert_eq!(rt; whole.written().len(), 9023);
+    let mut cut = MemSink::new(rt.alloc(), 10000, 10000)?;
+    cut.fail_at(2)?;
+    assert!(rt; write_hier(&deck, &mut cut).is_err());
+    assert_eq!(rt; cut.written(), b"hier 1\nmodule 0 ".as_slice());
     Ok(())
 }

@@ -21,6 +21,4 @@ returns-clause-gathered g c =
     gathers_done (λ wire. 44 ∷ wire_text wire) c.args.wires.now c.loop-wire.wire-index over c.loop-wire.invariant.gathered
 
 pub returns-clause-prefix : goal.returns-clause-prefix
-returns-clause-prefix g c =
-    let over : length c.args.wires.now ≤ c.loop-wire.wire-index = omega arith in
-    prefix_all (gathers_done (λ wire. 44 ∷ wire_text wire) c.args.wires.now c.loop-wire.wire-index over c.loop-wire.invariant.gathered)
+returns-clause-prefix g c = prefix_all (returns-clause-gathered g c)

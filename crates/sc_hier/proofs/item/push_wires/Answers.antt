@@ -1,4 +1,4 @@
-use Rattle.std.proofs.Common.{◌≡◌, [], ◌∷◌, ◌∙◌, ap}
+use Rattle.std.proofs.Common.{[], ◌∷◌, ◌∙◌, ap}
 use Rattle.std.proofs.lemmas.List.{nil_from_length}
 use Rattle.std.specs.Prelude.{flat_map}
 use Rattle.sc_gate.specs.Lines.{wire_text}
@@ -7,13 +7,8 @@ use Rattle.sc_hier.proofs.GatherLemmas.{gathers_then, gathers_nothing, gathers_a
 use Rattle.sc_hier.proofs.TextLemmas.{wires_in_parts}
 use Rattle.sc_hier.proofs.item.push_wires.Goals as goal
 
-pub returns-in-None-clause-gathered : goal.returns-in-None-clause-gathered
-returns-in-None-clause-gathered g c =
-    gathers_as _ (ap wires_text (nil_from_length c.args.wires.now c.in-None.ensures.cases)) (gathers_nothing _ _ _ _)
-
-pub returns-in-None-clause-prefix : goal.returns-in-None-clause-prefix
-returns-in-None-clause-prefix g c =
-    prefix_all (gathers_as _ (ap wires_text (nil_from_length c.args.wires.now c.in-None.ensures.cases)) (gathers_nothing _ _ _ _))
+pub returns-in_default-clause-gathered : goal.returns-in_default-clause-gathered
+returns-in_default-clause-gathered g c = gathers_as _ (ap wires_text (nil_from_length c.args.wires.now c.in_default.ensures.cases)) (gathers_nothing _ _ _ _)
 
 pub returns-in_err-push-clause-prefix : goal.returns-in_err-push-clause-prefix
 returns-in_err-push-clause-prefix g c =
@@ -33,8 +28,8 @@ returns-clause-gathered g c =
     let first = rw (c.as_bytes.ensures, c.wire_after.ensures) at c.in_ok-push.ensures.gathered in
     gathers_as _ same (gathers_then first c.in_ok-push_more_wires.ensures.gathered)
 
+pub returns-in_default-clause-prefix : goal.returns-in_default-clause-prefix
+returns-in_default-clause-prefix g c = prefix_all (returns-in_default-clause-gathered g c)
+
 pub returns-clause-prefix : goal.returns-clause-prefix
-returns-clause-prefix g c =
-    let same = ap wires_text c.in-Some.ensures.cases.0 ∙ wires_in_parts c.in-Some.first.now c.in-Some.rest.now in
-    let first = rw (c.as_bytes.ensures, c.wire_after.ensures) at c.in_ok-push.ensures.gathered in
-    gathers_prefix_as _ same (prefix_all (gathers_then first c.in_ok-push_more_wires.ensures.gathered))
+returns-clause-prefix g c = prefix_all (returns-clause-gathered g c)

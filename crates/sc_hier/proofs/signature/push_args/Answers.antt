@@ -1,4 +1,4 @@
-use Rattle.std.proofs.Common.{◌≡◌, [], ◌∷◌, ◌∙◌, ap}
+use Rattle.std.proofs.Common.{[], ◌∷◌, ◌∙◌, ap}
 use Rattle.std.proofs.lemmas.List.{nil_from_length}
 use Rattle.std.specs.Prelude.{flat_map}
 use Rattle.sc_deck.specs.Hierarchical.{arg_text}
@@ -6,13 +6,8 @@ use Rattle.sc_hier.proofs.GatherLemmas.{gathers_then, gathers_nothing, gathers_a
 use Rattle.sc_hier.proofs.TextLemmas.{joined_args, joined_after}
 use Rattle.sc_hier.proofs.signature.push_args.Goals as goal
 
-pub returns-in-None-clause-gathered : goal.returns-in-None-clause-gathered
-returns-in-None-clause-gathered g c =
-    gathers_as _ (ap joined_args (nil_from_length c.args.args.now c.in-None.ensures.cases)) (gathers_nothing _ _ _ _)
-
-pub returns-in-None-clause-prefix : goal.returns-in-None-clause-prefix
-returns-in-None-clause-prefix g c =
-    prefix_all (gathers_as _ (ap joined_args (nil_from_length c.args.args.now c.in-None.ensures.cases)) (gathers_nothing _ _ _ _))
+pub returns-in_default-clause-gathered : goal.returns-in_default-clause-gathered
+returns-in_default-clause-gathered g c = gathers_as _ (ap joined_args (nil_from_length c.args.args.now c.in_default.ensures.cases)) (gathers_nothing _ _ _ _)
 
 pub returns-in_err-push-clause-prefix : goal.returns-in_err-push-clause-prefix
 returns-in_err-push-clause-prefix g c =
@@ -32,8 +27,8 @@ returns-clause-gathered g c =
     let first = rw (c.as_bytes.ensures, c.arg_after.ensures) at c.in_ok-push.ensures.gathered in
     gathers_as _ same (gathers_then first c.in_ok-push_more_args.ensures.gathered)
 
+pub returns-in_default-clause-prefix : goal.returns-in_default-clause-prefix
+returns-in_default-clause-prefix g c = prefix_all (returns-in_default-clause-gathered g c)
+
 pub returns-clause-prefix : goal.returns-clause-prefix
-returns-clause-prefix g c =
-    let same = ap joined_args c.in-Some.ensures.cases.0 ∙ joined_after arg_text c.in-Some.first.now c.in-Some.rest.now in
-    let first = rw (c.as_bytes.ensures, c.arg_after.ensures) at c.in_ok-push.ensures.gathered in
-    gathers_prefix_as _ same (prefix_all (gathers_then first c.in_ok-push_more_args.ensures.gathered))
+returns-clause-prefix g c = prefix_all (returns-clause-gathered g c)

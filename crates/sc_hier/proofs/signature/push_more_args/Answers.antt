@@ -21,6 +21,4 @@ returns-clause-gathered g c =
     gathers_done (λ arg. 44 ∷ arg_text arg) c.args.args.now c.loop-arg.arg-index over c.loop-arg.invariant.gathered
 
 pub returns-clause-prefix : goal.returns-clause-prefix
-returns-clause-prefix g c =
-    let over : length c.args.args.now ≤ c.loop-arg.arg-index = omega arith in
-    prefix_all (gathers_done (λ arg. 44 ∷ arg_text arg) c.args.args.now c.loop-arg.arg-index over c.loop-arg.invariant.gathered)
+returns-clause-prefix g c = prefix_all (returns-clause-gathered g c)

@@ -8,11 +8,11 @@ use Rattle.sc_hier.proofs.write.deck_has_turns.Goals as goal
 
 pub returns-then-any_has_turns : goal.returns-then-any_has_turns
 returns-then-any_has_turns c =
-    sym (turns_at c.args.deck.now c.loop-number.number _ c.module_at-body.ensures (sym (c.if-any_has_turns.ensures ∙ ap (list_any has_turns) c.items.ensures)))
+    sym (turns_at c.args.deck.now c.loop-number.number _ c.module_at.ensures (sym (c.if-any_has_turns.ensures ∙ ap (list_any has_turns) c.items.ensures)))
 
 pub loop-number-preserved : goal.loop-number-preserved
 loop-number-preserved c =
-    no_turns_more c.args.deck.now c.loop-number.number _ c.module_at-body.ensures c.loop-number.invariant
+    no_turns_more c.args.deck.now c.loop-number.number _ c.module_at.ensures c.loop-number.invariant
     (sym (c.if-any_has_turns.ensures ∙ ap (list_any has_turns) c.items.ensures))
 
 pub returns : goal.returns
