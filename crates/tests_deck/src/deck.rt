@@ -19,7 +19,7 @@ fn wire(number: u32) -> Wire
     }
 }
 
-fn hadamard(number: u32) -> Gate
+pub fn hadamard(number: u32) -> Gate
     ensures { result ≡ h number }
 {
     Gate {
@@ -30,7 +30,7 @@ fn hadamard(number: u32) -> Gate
     }
 }
 
-fn controlled_not(control: u32, target: u32) -> Gate
+pub fn controlled_not(control: u32, target: u32) -> Gate
     ensures { result ≡ cnot control target }
 {
     Gate {
@@ -62,7 +62,7 @@ fn body_of_main(alloc: Global) -> Result<Body, Memory>
     Ok(body)
 }
 
-fn key_of_g(alloc: Global) -> Result<Key, Memory>
+pub fn key_of_g(alloc: Global) -> Result<Key, Memory>
     ensures { IfOk result (λ k. k ≡ g_key) }
 {
     let mut args = List::new(alloc);
@@ -73,7 +73,7 @@ fn key_of_g(alloc: Global) -> Result<Key, Memory>
     })
 }
 
-fn key_of_main(alloc: Global) -> Result<Key, Memory>
+pub fn key_of_main(alloc: Global) -> Result<Key, Memory>
     ensures { IfOk result (λ k. k ≡ main_key) }
 {
     Ok(Key {
@@ -83,7 +83,7 @@ fn key_of_main(alloc: Global) -> Result<Key, Memory>
 }
 
 /// The example, built body by body.
-fn deck_of_g(alloc: Global) -> Result<Deck, Memory>
+pub fn deck_of_g(alloc: Global) -> Result<Deck, Memory>
     ensures { IfOk result (λ d. d ≡ g_repeated) }
 {
     let mut deck = Deck::new(alloc);

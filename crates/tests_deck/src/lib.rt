@@ -8,4 +8,6 @@ mod deck;
 #[cfg(test)]
 mod gates;
 #[cfg(test)]
+mod hier;
+#[cfg(test)]
 mod sched;
