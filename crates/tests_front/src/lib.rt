@@ -4,6 +4,8 @@
 #[cfg(test)]
 mod parse;
 #[cfg(test)]
+mod tree;
+#[cfg(test)]
 mod value;
 #[cfg(test)]
 mod word;
