@@ -1,5 +1,5 @@
 -- The walk over a statement tells the model's walk, by cases on the tree.
-use Rattle.std.proofs.Common.{◌≡◌, ℕ, suc, List, [], ◌∷◌, ◌++◌, Some, None, Result, Ok, Err, refl, sym, ap, subst, append_assoc, append-nil, arith}
+use Rattle.std.proofs.Common.{◌≡◌, ℕ, suc, List, [], ◌∷◌, ◌++◌, Some, None, Result, Ok, Err, refl, sym, ap, subst, ◌∙◌, append_assoc, append-nil, arith}
 use Rattle.sc_syntax.specs.declared.Stmt.{Stmt}
 use Rattle.sc_syntax.specs.declared.Act.{Act, Wires, Numbers, Set, Measure, Call, If', While', For', Block', Empty, Held-Act-If-2, None', Some', Row_of-Stmt, end_of-Stmt, more_of-Stmt}
 use Rattle.sc_syntax.specs.declared.Part.{Part}
@@ -164,3 +164,13 @@ pub body_fault : (parts : List Part) (ss : List Stmt) (stack : Stack) (f : TypeF
     → (before : List Declaration) → StandsAtBody stack before → first_fault (walk_stmts parts before 0 ss).checks ≡ Some f
 body_fault parts ss stack f e before h =
     subst (λ (r : Result Stack TypeFault). Tells (IsInside []) r stack before [] (walk_stmts parts before 0 ss)) e (body_told parts ss stack before h)
+
+-- a body without a fault is walked to its end
+pub body_runs : (parts : List Part) (ss : List Stmt) (stack : Stack) (before : List Declaration) → StandsAtBody stack before → first_fault (walk_stmts parts before 0 ss).checks ≡ None
+    → (after : Stack) × (stmts_on parts stack ss ≡ Ok after)
+body_runs parts ss stack before h fine = by (stmts_on parts stack ss) refl (body_told parts ss stack before h)
+  where
+    by : (r : Result Stack TypeFault) → stmts_on parts stack ss ≡ r → Tells (IsInside []) r stack before [] (walk_stmts parts before 0 ss)
+        → (after : Stack) × (stmts_on parts stack ss ≡ Ok after)
+    by (Ok after) is told = (after, is)
+    by (Err f) is told = absurd (let impossible : Some f ≡ None = sym told ∙ fine in cc)

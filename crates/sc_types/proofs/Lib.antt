@@ -1,3 +1,5 @@
+pub mod AcceptedSources
+pub mod Accepting
 pub mod ActWalks
 pub mod AlikeNumbers
 pub mod AlikeSources

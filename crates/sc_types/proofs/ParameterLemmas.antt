@@ -51,7 +51,7 @@ next_int all i p old new within is h notes = record {
 
 -- ---- what names mean in a length
 
-or_later_int : (later : List Param) (name : List ℕ) (k : Option Kind) → or_int (list_any (is_int_named name) later) k ≡ or_later later name k
+pub or_later_int : (later : List Param) (name : List ℕ) (k : Option Kind) → or_int (list_any (is_int_named name) later) k ≡ or_later later name k
 or_later_int later name (Some k) = refl
 or_later_int later name None = refl
 

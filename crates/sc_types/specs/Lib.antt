@@ -1,3 +1,4 @@
+pub mod Accepted
 pub mod Checks
 pub mod Declarations
 pub mod FirstParts

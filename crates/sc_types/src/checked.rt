@@ -3,6 +3,7 @@ ghost use Rattle.std.specs.Prelude.{◌≡◌, Some, None, IsSomeAnd, MatchOptio
 ghost use Rattle.std.specs.Option.{option_copied};
 ghost use Rattle.sc_syntax.specs.Formed.{IsFormedSource};
 ghost use Rattle.sc_word.specs.Typed.{TypesFn};
+ghost use Rattle.sc_types.specs.Accepted.{IsAccepted};
 ghost use Rattle.sc_types.specs.FirstParts.{FindsFirst};
 ghost use Rattle.sc_types.specs.Typing.{IsWellTyped, main_at, part_at, HasMain, HaveDistinctNames, function_at, typed_at};
 
@@ -52,11 +53,14 @@ impl Checked {
         }
     }
 
-    /// The source that was handed in.
+    /// The source that was handed in. In it every expression is of the kind that its place needs, every call fits
+    /// what it calls in number and kinds, every operand is a wire of its class and shape, and every name is
+    /// declared once in its scope.
     pub fn source(&self) -> &Source
         ensures value { result.now ≡ self.now.source }
         ensures formed { IsFormedSource self.now.source }
         ensures well_typed { IsWellTyped self.now.source }
+        ensures accepted { IsAccepted self.now }
         ensures distinct { HaveDistinctNames self.now.source.parts }
     {
         &self.source
