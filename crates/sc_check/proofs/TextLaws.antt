@@ -6,19 +6,14 @@ use Rattle.sc_gate.specs.Lines.{number_line}
 use Rattle.sc_sched.specs.declared.plan.Plan.{Plan}
 use Rattle.sc_sched.specs.Legal.{Region, Step}
 use Rattle.sc_sched.specs.Text.{after_spaces, region_line, step_text, schedule_text, IsSize, IsWritable, HasText, IsTextOf, Stage, Title, Regions, Width, Gates, Steps, Body, Over, NumberLine, InPlace, AllInPlace, joined, IsBadLine}
-use Rattle.sc_check.proofs.ReaderLemmas.{head_is, tail_is, append_cancel, number_unique, after_ends, line_parts, region_parts}
+use Rattle.sc_base.proofs.NumeralLemmas.{head_is, tail_is, append_cancel, number_unique, number_line_one_way}
+use Rattle.sc_check.proofs.ReaderLemmas.{after_ends, region_parts}
 use Rattle.sc_check.proofs.LineLemmas.{in_place-append}
 
 -- one line that is read two ways
 record SameLine (a b : List ℕ) (more after : List ℕ) : Type 0 where
   line : a ≡ b
   rest : more ≡ after
-
-number_same : (word : List ℕ) (m n : ℕ) (more after : List ℕ) → m < 2 ^ 64 → n < 2 ^ 64 → number_line word m ++ more ≡ number_line word n ++ after → (m ≡ n) × (more ≡ after)
-number_same word m n more after a b h =
-    let inner : 32 ∷ (decimal m ++ 10 ∷ more) ≡ 32 ∷ (decimal n ++ 10 ∷ after) = append_cancel word _ _ (sym (line_parts word m more) ∙ (h ∙ line_parts word n after)) in
-    let r = number_unique m n (10 ∷ more) (10 ∷ after) a b refl refl (tail_is 32 32 _ _ inner) in
-    (r.0, tail_is 10 10 more after r.1)
 
 positions_same : (gates : ℕ) (xs ys : Region) (more after : List ℕ) → gates < 2 ^ 64 → All (λ x. x < gates) xs → All (λ x. x < gates) ys → after_spaces xs ++ 10 ∷ more ≡ after_spaces ys ++ 10 ∷ after → (xs ≡ ys) × (more ≡ after)
 positions_same gates [] [] more after g a b h = (refl, tail_is 10 10 more after h)
@@ -93,13 +88,13 @@ unfolding plan_of
 one_schedule_of gates text s t g p q =
     let whole = append_cancel (codes "sched 1\n") _ _ (sym (text_parts s) ∙ (sym p.text_is ∙ (q.text_is ∙ text_parts t))) in
     let a : s.k ≤ 1000000 = p.has_text.k.1 in let b : t.k ≤ 1000000 = q.has_text.k.1 in
-    let r = number_same (codes "regions") s.k t.k _ _ (omega (arith, a)) (omega (arith, b)) whole in
+    let r = number_line_one_way (codes "regions") s.k t.k _ _ (omega (arith, a)) (omega (arith, b)) whole in
     let c : s.d ≤ 1000000 = p.has_text.d.1 in let d : t.d ≤ 1000000 = q.has_text.d.1 in
-    let w = number_same (codes "width") s.d t.d _ _ (omega (arith, c)) (omega (arith, d)) r.1 in
+    let w = number_line_one_way (codes "width") s.d t.d _ _ (omega (arith, c)) (omega (arith, d)) r.1 in
     let e : s.gates ≡ gates = p.gates_are in let f : t.gates ≡ gates = q.gates_are in
-    let n = number_same (codes "gates") s.gates t.gates _ _ (omega (arith, e, g)) (omega (arith, f, g)) w.1 in
+    let n = number_line_one_way (codes "gates") s.gates t.gates _ _ (omega (arith, e, g)) (omega (arith, f, g)) w.1 in
     let i : length s.steps ≤ 4294967295 = p.has_text.steps in let j : length t.steps ≤ 4294967295 = q.has_text.steps in
-    let m = number_same (codes "steps") (length s.steps) (length t.steps) _ _ (omega (arith, i)) (omega (arith, j)) n.1 in
+    let m = number_line_one_way (codes "steps") (length s.steps) (length t.steps) _ _ (omega (arith, i)) (omega (arith, j)) n.1 in
     let steps : s.steps ≡ t.steps = steps_same gates s.steps t.steps (omega (arith, g))
     (subst (λ (z : ℕ). All (λ step. All (IsWritable z) step) s.steps) e p.has_text.regions) (subst (λ (z : ℕ). All (λ step. All (IsWritable z) step) t.steps) f q.has_text.regions) m.1 in
     ap (λ (z : ℕ). plan_of z s.d s.gates s.steps) r.0 ∙ (ap (λ (z : ℕ). plan_of t.k z s.gates s.steps) w.0 ∙ (ap (λ (z : ℕ). plan_of t.k t.d z s.steps) n.0 ∙ ap (plan_of t.k t.d t.gates) steps))
@@ -113,7 +108,7 @@ record OneLine (a b : List ℕ) (n m : Stage) (more after : List ℕ) : Type 0 w
 numbers_one : (word : List ℕ) (P : ℕ → Type 0) (A : ℕ → Stage) (a b : List ℕ) (n m : Stage) (more after : List ℕ) → ((k : ℕ) → P k → k < 2 ^ 64) →
     NumberLine word P A a n → NumberLine word P A b m → a ++ more ≡ b ++ after → OneLine a b n m more after
 numbers_one word P A a b n m more after small p q h =
-    let r = number_same word p.number q.number more after (small p.number p.allowed) (small q.number q.allowed) (ap (λ (z : List ℕ). z ++ more) (sym p.line_is) ∙ (h ∙ ap (λ (z : List ℕ). z ++ after) q.line_is)) in
+    let r = number_line_one_way word p.number q.number more after (small p.number p.allowed) (small q.number q.allowed) (ap (λ (z : List ℕ). z ++ more) (sym p.line_is) ∙ (h ∙ ap (λ (z : List ℕ). z ++ after) q.line_is)) in
     record { line = p.line_is ∙ (ap (number_line word) r.0 ∙ sym q.line_is); next = p.next_is ∙ (ap A r.0 ∙ sym q.next_is); rest = r.1 }
 
 text_one : (text a b : List ℕ) (n m : Stage) (more after : List ℕ) → a ≡ text → b ≡ text → n ≡ m → a ++ more ≡ b ++ after → OneLine a b n m more after

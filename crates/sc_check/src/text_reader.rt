@@ -3,13 +3,13 @@ ghost use Rattle.std.specs.Prelude.{◌≡◌, ◌+◌, ℕ, ◌<◌, ◌≤◌,
 ghost use Rattle.sc_sched.specs.Text.{region_line, step_text, IsWritable, IsTextOf};
 ghost use Rattle.sc_check.specs.ReadFaults.{IsReadFault, IsBodyFault, ReadsBody, ReadsRegions};
 
-use crate::reader::{exact, take_number_line, take_region_line, take_text};
-use sc_base::{List, Memory};
+use crate::reader::{exact, take_region_line};
+use sc_base::{List, Memory, take_number_line, take_text};
 use sc_sched::{Plan, Step};
 use std::alloc::Global;
 
 /// The greatest number of regions and of qubits of a region in a text.
-const GREATEST: u32 = 1_000_000;
+const GREATEST: u64 = 1_000_000;
 
 /// Why a text was not read.
 #[derive(Clone, Copy, Debug, PartialEq, Eq)]
@@ -36,14 +36,20 @@ pub fn read_schedule(alloc: Global, text: &[u8], gates: u32) -> Result<Plan, Sch
     let Some((d, after_d)) = take_number_line(after_k, b"width", 1, GREATEST) else {
         return Err(SchedReadFault::BadSchedule(3));
     };
-    let Some((_, after_gates)) = take_number_line(after_d, b"gates", gates, gates) else {
+    let wanted = gates as u64;
+    let Some((_, after_gates)) = take_number_line(after_d, b"gates", wanted, wanted) else {
         return Err(SchedReadFault::BadSchedule(4));
     };
-    let Some((count, body)) = take_number_line(after_gates, b"steps", 0, u32::MAX) else {
+    let Some((count, body)) = take_number_line(after_gates, b"steps", 0, u32::MAX as u64) else {
         return Err(SchedReadFault::BadSchedule(5));
     };
-    match read_steps(alloc, body, gates, count) {
-        Ok(steps) => Ok(Plan { k, d, gates, steps }),
+    match read_steps(alloc, body, gates, count as u32) {
+        Ok(steps) => Ok(Plan {
+            k: k as u32,
+            d: d as u32,
+            gates,
+            steps,
+        }),
         Err(fault) => Err(fault),
     }
 }
