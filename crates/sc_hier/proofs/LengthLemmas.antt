@@ -1,13 +1,12 @@
 -- How long the texts of wires, angles and gates are at most.
-use Rattle.std.proofs.Common.{◌≡◌, ℕ, ◌+◌, ◌/◌, ◌%◌, ◌^◌, ◌<◌, ◌≤◌, ℤ, pos, negsuc, FitsSigned, w64, List, [], ◌∷◌, ◌++◌, length, refl, sym, ap, ◌∙◌, arith, length-append}
-use Rattle.std.specs.Prelude.{decimal, codes, map, option_to_list}
+use Rattle.std.proofs.Common.{ℕ, ◌+◌, ◌/◌, ◌%◌, ◌^◌, ◌<◌, ◌≤◌, ℤ, pos, negsuc, FitsSigned, w64, ◌∷◌, length, arith, length-append}
+use Rattle.std.specs.Prelude.{decimal, map, option_to_list}
 use Rattle.std.proofs.lemmas.Fmt.{length-decimal-le}
 use Rattle.sc_base.specs.declared.names.GateName.{GateName}
 use Rattle.sc_base.specs.declared.names.GateName.TheVariants as name
 use Rattle.sc_base.specs.GateNames.{gate_text}
 use Rattle.sc_base.specs.Decimals.{twelve_digits, units_text, fixed_text}
 use Rattle.sc_base.proofs.DecimalLemmas.{length-twelve_digits}
-use Rattle.sc_gate.specs.declared.gate.Wire.{Wire}
 use Rattle.sc_gate.specs.declared.gate.Gate.{Gate}
 use Rattle.sc_gate.specs.Gates.{name_of}
 use Rattle.sc_gate.specs.Lines.{wire_text, value_texts, after_commas, gate_line}

@@ -4,7 +4,7 @@ use Rattle.std.proofs.lemmas.List.{append-nil, take-append-drop, length-take-le}
 use Rattle.std.proofs.lemmas.Option.{slice_get_within, get_or_from_slice_get, slice_get_cases, none-some}
 use Rattle.std.proofs.Math.Seq.{take-suc}
 use Rattle.std.proofs.lemmas.List.Folds.{flat_map-map, list_any_at, list_any_more}
-use Rattle.std.specs.Prelude.{flat_map, codes, decimal}
+use Rattle.std.specs.Prelude.{flat_map, codes}
 use Rattle.std.specs.List.{join_with_byte, list_any}
 use Rattle.std.specs.Option.{option_map, option_copied, IsSome}
 use Rattle.sc_gate.proofs.LineLemmas.{joined_by_commas}
@@ -13,7 +13,7 @@ use Rattle.sc_deck.specs.declared.key.Key.{Key}
 use Rattle.sc_deck.specs.Bodies.{Contents}
 use Rattle.sc_deck.specs.Modules.{Module, key_of, body_of}
 use Rattle.sc_deck.specs.declared.key.Arg.{Arg}
-use Rattle.sc_deck.specs.Hierarchical.{arg_text, signature, wires_text, call_line, repeat_line, item_line, module_text, modules_text, have_turns}
+use Rattle.sc_deck.specs.Hierarchical.{arg_text, wires_text, module_text, modules_text, have_turns}
 use Rattle.sc_deck.specs.Turns.{has_turns}
 use Rattle.sc_gate.specs.declared.gate.Wire.{Wire}
 use Rattle.sc_gate.specs.Lines.{wire_text}

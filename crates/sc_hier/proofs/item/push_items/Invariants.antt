@@ -1,4 +1,4 @@
-use Rattle.std.proofs.Common.{◌≡◌, ◌≤◌, ◌∷◌, false, take}
+use Rattle.std.proofs.Common.{◌≡◌, ◌≤◌, false, take}
 use Rattle.std.specs.Prelude.{flat_map}
 use Rattle.sc_deck.specs.Hierarchical.{item_line}
 use Rattle.sc_hier.specs.Gathering.{Gathers}

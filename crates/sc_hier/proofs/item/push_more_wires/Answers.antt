@@ -1,4 +1,4 @@
-use Rattle.std.proofs.Common.{◌≤◌, ◌∷◌, ◌∙◌, length, refl, sym, arith}
+use Rattle.std.proofs.Common.{◌≤◌, ◌∷◌, ◌∙◌, length, sym, arith}
 use Rattle.sc_gate.specs.Lines.{wire_text}
 use Rattle.sc_hier.proofs.GatherLemmas.{gathers_step, gathers_fault, gathers_done, prefix_all}
 use Rattle.sc_hier.proofs.item.push_more_wires.Goals as goal

@@ -1,4 +1,4 @@
-use Rattle.std.proofs.Common.{◌≤◌, ◌+◌, length, take, drop, sym, ap, arith}
+use Rattle.std.proofs.Common.{◌≤◌, ◌+◌, length, drop, sym, ap, arith}
 use Rattle.std.proofs.lemmas.List.{take_all}
 use Rattle.sc_deck.specs.Hierarchical.{modules_text}
 use Rattle.sc_hier.proofs.GatherLemmas.{gathers_then, gathers_as, gathers_prefix_as, prefix_before, prefix_after, prefix_all}
