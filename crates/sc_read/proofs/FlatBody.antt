@@ -9,7 +9,7 @@ use Rattle.sc_base.specs.Numerals.{IsWhole}
 use Rattle.sc_base.specs.declared.names.GateName.{GateName}
 use Rattle.sc_base.specs.declared.names.GateName.TheVariants as name
 use Rattle.sc_base.proofs.NumeralLemmas.{head_is, append_cancel, whole_one_way, decimal_whole, decimal_value, number_line_one_way}
-use Rattle.sc_base.proofs.TextLines.{one_line, line_there, read_nothing, read_more, read_short, read_whole, bad_end, bad_line, one_reading, whole_not_bad, whole_not_broken, bad_not_broken, one_bad}
+use Rattle.sc_base.proofs.TextLines.{one_line, line_long, line_there, read_nothing, read_more, read_short, read_whole, bad_end, bad_line, one_reading, whole_not_bad, whole_not_broken, bad_not_broken, one_bad}
 use Rattle.sc_gate.specs.declared.gate.Gate.{Gate}
 use Rattle.sc_gate.specs.Gates.{name_of}
 use Rattle.sc_gate.specs.Lines.{gate_line, number_line}
@@ -42,9 +42,16 @@ gate_goes wires (suc left) gates line g rest some is p = inr (record {
 pub BodyRead : Numbers → ℕ → List ℕ → List Gate → ℕ → List ℕ → ℕ → Type 0
 BodyRead wires count text gates left rest number = ReadTo Goes (Body wires count []) text 5 (Body wires left gates) rest number
 
-pub body_starts : (wires : Numbers) (count : ℕ) (text : List ℕ) → BodyRead wires count text [] count text 5
+body_starts : (wires : Numbers) (count : ℕ) (text : List ℕ) → BodyRead wires count text [] count text 5
 unfolding BodyRead
 body_starts wires count text = read_nothing Goes (Body wires count []) text 5
+
+pub body_begins : (wires : Numbers) (count : ℕ) (text : List ℕ) (gates : List Gate) → gates ≡ [] → BodyRead wires count text gates count text 5
+body_begins wires count text gates none = subst (λ (z : List Gate). BodyRead wires count text z count text 5) (sym none) (body_starts wires count text)
+
+-- what follows a line is shorter
+pub line_shorter : (line rest more : List ℕ) → IsLine line → rest ≡ line ++ more → length more < length rest
+line_shorter line rest more is there = omega (arith, ap length there, length-append line more, line_long line is)
 
 pub body_short : (wires : Numbers) (count : ℕ) (text : List ℕ) (gates : List Gate) (left : ℕ) (rest : List ℕ) (number : ℕ) →
     BodyRead wires count text gates left rest number → number + length rest ≤ 5 + length text

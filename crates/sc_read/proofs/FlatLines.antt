@@ -111,14 +111,20 @@ gates_bad wires text none = bad_here (Gates wires) text 4 (λ end. absurd end) (
 pub record HasQubits (text : List ℕ) (q : ℕ) (after : List ℕ) : Type 0 where
   pub before : List ℕ
   pub title : text ≡ codes "flat 1\n" ++ before
-  pub allowed : q < 2 ^ 32
+  pub allowed : q ≤ most_flat_wires
   pub line_is : before ≡ number_line (codes "qbits") q ++ after
 
 pub record HasCbits (text : List ℕ) (q c : ℕ) (after : List ℕ) : Type 0 where
   pub before : List ℕ
   pub qubits : HasQubits text q before
-  pub allowed : c < 2 ^ 32
+  pub allowed : c ≤ most_flat_wires
   pub line_is : before ≡ number_line (codes "cbits") c ++ after
+
+pub has_qubits : (text before : List ℕ) (q : ℕ) (after : List ℕ) → text ≡ codes "flat 1\n" ++ before → q ≤ most_flat_wires → before ≡ number_line (codes "qbits") q ++ after → HasQubits text q after
+has_qubits text before q after title allowed line_is = record { before = before; title = title; allowed = allowed; line_is = line_is }
+
+pub has_cbits : (text before : List ℕ) (q c : ℕ) (after : List ℕ) → HasQubits text q before → c ≤ most_flat_wires → before ≡ number_line (codes "cbits") c ++ after → HasCbits text q c after
+has_cbits text before q c after qubits allowed line_is = record { before = before; qubits = qubits; allowed = allowed; line_is = line_is }
 
 -- from the stage behind the front, back to the first
 bad_from_qubits : (text after : List ℕ) (number : ℕ) → text ≡ codes "flat 1\n" ++ after → IsFirstBad Goes Breaks MayEnd Qubits after 2 number → IsBadLine text number
@@ -157,9 +163,9 @@ too_many text q c after rest h p =
       breaks = (p.number, p.line_is, p.count_is);
     } in
     let third = break_first Goes Breaks MayEnd (Cbits q) (Gates (counts q c)) h.before (number_line (codes "cbits") c) after (cbits_is_line c (omega (arith, h.allowed))) h.line_is
-        (record { number = c; allowed = omega (arith, h.allowed); line_is = refl; next_is = refl }) 3 4 TooManyGates here in
+    (record { number = c; allowed = omega (arith, h.allowed); line_is = refl; next_is = refl }) 3 4 TooManyGates here in
     let second = break_first Goes Breaks MayEnd Qubits (Cbits q) h.qubits.before (number_line (codes "qbits") q) h.before (qubits_is_line q (omega (arith, h.qubits.allowed))) h.qubits.line_is
-        (record { number = q; allowed = omega (arith, h.qubits.allowed); line_is = refl; next_is = refl }) 2 4 TooManyGates third in
+    (record { number = q; allowed = omega (arith, h.qubits.allowed); line_is = refl; next_is = refl }) 2 4 TooManyGates third in
     (4, break_first Goes Breaks MayEnd Title Qubits text (codes "flat 1\n") h.qubits.before title_is_line h.qubits.title (refl, refl) 1 4 TooManyGates second)
 
 -- the line of the number of gates, and the stage behind it
@@ -184,9 +190,9 @@ text_there text q c after count rest f h p qubits cbits whole =
     let end : Stage = Body (counts q c) 0 f.gates in
     let fourth = whole_first Goes Breaks MayEnd (Gates (counts q c)) (Body (counts q c) count []) after p.line rest (gates_is_line p.line p.number p.line_is) p.joined (begins q c after count rest p) end whole in
     let third = whole_first Goes Breaks MayEnd (Cbits q) (Gates (counts q c)) h.before (number_line (codes "cbits") c) after (cbits_is_line c (omega (arith, h.allowed))) h.line_is
-        (record { number = c; allowed = omega (arith, h.allowed); line_is = refl; next_is = refl }) end fourth in
+    (record { number = c; allowed = omega (arith, h.allowed); line_is = refl; next_is = refl }) end fourth in
     let second = whole_first Goes Breaks MayEnd Qubits (Cbits q) h.qubits.before (number_line (codes "qbits") q) h.before (qubits_is_line q (omega (arith, h.qubits.allowed))) h.qubits.line_is
-        (record { number = q; allowed = omega (arith, h.qubits.allowed); line_is = refl; next_is = refl }) end third in
+    (record { number = q; allowed = omega (arith, h.qubits.allowed); line_is = refl; next_is = refl }) end third in
     let first = whole_first Goes Breaks MayEnd Title Qubits text (codes "flat 1\n") h.qubits.before title_is_line h.qubits.title (refl, refl) end second in
     subst (λ (z : ℕ). IsReadWhole Goes MayEnd Title text (Body (counts z f.cbits) 0 f.gates)) (sym qubits)
     (subst (λ (z : ℕ). IsReadWhole Goes MayEnd Title text (Body (counts q z) 0 f.gates)) (sym cbits) first)
@@ -197,6 +203,7 @@ value_there digits (Fits n) count whole value is = subst (λ (z : Option ℕ). I
   where
     same : n ≡ digits_value 10 digits
     same = sym (ap (digits_value 10) value.1 ∙ decimal_value n value.0)
+
     by : (b : Bool) → nat_le n most_gates ≡ b → IsCount (if b then Some n else None) (digits_value 10 digits)
     by true within = (same, (let w : n ≤ most_gates = leb-true n most_gates within in omega (arith, w, same)))
     by false past = (let w : most_gates < n = leb-false n most_gates past in omega (arith, w, same))
@@ -219,6 +226,10 @@ no_gates_feed bytes after digits end word front none line more number p same =
     let there : after ≡ p.digits ++ 10 ∷ more = append_cancel (codes "gates ") after (p.digits ++ 10 ∷ more)
     (sym word ∙ (same ∙ (ap (λ (z : List ℕ). z ++ more) p.line_is ∙ (append_assoc (codes "gates " ++ p.digits) (codes "\n") more ∙ append_assoc (codes "gates ") p.digits (10 ∷ more))))) in
     none more (whole_one_way after digits p.digits end (10 ∷ more) front (record { joined = there; whole = p.whole; ends = refl })).1
+
+pub none_of : (count : Option ℕ) → ((x : ℕ) → count ≡ Some x → ⊥) → count ≡ None
+none_of None none = refl
+none_of (Some x) none = absurd (none x refl)
 
 -- THE TEXT OF A LIST OF GATES
 gates_go : (wires : Numbers) (gates before : List Gate) → AllByRecursion (IsNextGate wires) gates →

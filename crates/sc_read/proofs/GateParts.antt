@@ -209,7 +209,7 @@ wire_too_large q c bytes digits class number after limit a b letter digits_are s
     let classes : class ≡ w.class = one_class class w.class (head_is (class_letter class) (class_letter w.class) digits (decimal w.number ++ rest) both) in
     let few : w.number < 2 ^ 32 = wire_numbered q c w a b p.there in
     let numbers : number ≡ w.number = (number_unique number w.number after rest small (omega (arith, few)) ends p.ends
-        (sym digits_are ∙ tail_is (class_letter class) (class_letter w.class) digits (decimal w.number ++ rest) both)).0 in
+    (sym digits_are ∙ tail_is (class_letter class) (class_letter w.class) digits (decimal w.number ++ rest) both)).0 in
     let there : w.number < number_of class (counts q c) = subst (λ (z : Class). w.number < number_of z (counts q c)) (sym classes) p.there in
     omega (arith, there, numbers, limit_is, large)
   where
@@ -370,7 +370,7 @@ parts_there q c bytes n a b d rest g more small few h p =
     let named = one_name (name_of g.kind) n (wire_text g.a ++ behind_first g more) h.after_name (sym (line_in_parts g more) ∙ (sym p.joined ∙ h.name_is)) in
     let ends : EndsWires (behind_wires g more) = value_ends g.kind more p.gate.has_line.in_range in
     let first = one_wire q c h.after_name g.a a (behind_first g more) h.after_a small few
-        (record { joined = sym named.1; there = p.gate.there.0; ends = more_ends g.b g.c (behind_wires g more) ends.no_digit }) h.a_is in
+    (record { joined = sym named.1; there = p.gate.there.0; ends = more_ends g.b g.c (behind_wires g more) ends.no_digit }) h.a_is in
     let others = h.only g.b g.c (behind_wires g more) (record { joined = sym first.1; there = p.gate.there.1; in_order = p.gate.has_line.well_formed.in_order }) ends in
     record {
       name_is = named.0;

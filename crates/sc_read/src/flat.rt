@@ -80,6 +80,7 @@ pub fn read_flat(alloc: Global, text: &[u8]) -> Result<FlatText, FlatFault>
 /// The number of wires with whose line the bytes begin, and what follows the line.
 fn take_wire_count<'a>(bytes: &'a [u8], word: &[u8]) -> Option<(u32, &'a [u8])>
     ensures some { IfSome result (λ r. bytes.now ≡ number_line word.now r.0 ++ r.1.now) }
+    ensures allowed { IfSome result (λ r. r.0 ≤ most_flat_wires) }
     ensures none { IfNone result ((n : ℕ) (more : Values ℕ) → n ≤ most_flat_wires → bytes.now ≡ number_line word.now n ++ more → ⊥) }
 {
     match take_number_line(bytes, word, 0, MOST_FLAT_WIRES as u64) {
