@@ -1,24 +1,21 @@
 -- The body of a flat text, line by line, and that flat texts are read one way.
-use Rattle.std.proofs.Common.{◌≡◌, ◌≢◌, ℕ, zero, suc, ◌+◌, ◌-◌, ◌<◌, ◌≤◌, ◌^◌, List, [], ◌∷◌, ◌++◌, length, map, refl, sym, ap, ◌∙◌, subst, arith, append_assoc, append-nil, length-append, inl, inr}
-use Rattle.std.specs.Prelude.{codes, decimal}
+use Rattle.std.proofs.Common.{◌≡◌, ℕ, zero, suc, ◌+◌, ◌-◌, ◌<◌, ◌≤◌, List, [], ◌∷◌, ◌++◌, length, refl, sym, ap, ◌∙◌, subst, arith, append_assoc, append-nil, length-append, inl, inr}
+use Rattle.std.specs.Prelude.{codes}
 use Rattle.std.specs.Str.Parse.{digits_value}
 use Rattle.sc_base.specs.GateNames.{gate_text}
-use Rattle.sc_base.specs.Limits.{most_gates, most_flat_wires}
-use Rattle.sc_base.specs.Lines.{IsLine, joined, GoThrough, ReadTo, IsReadWhole, IsFirstBad, LeadsOneWay}
-use Rattle.sc_base.specs.Numerals.{IsWhole}
+use Rattle.sc_base.specs.Lines.{IsLine, ReadTo, IsReadWhole, IsFirstBad, LeadsOneWay}
 use Rattle.sc_base.specs.declared.names.GateName.{GateName}
 use Rattle.sc_base.specs.declared.names.GateName.TheVariants as name
-use Rattle.sc_base.proofs.NumeralLemmas.{head_is, append_cancel, whole_one_way, decimal_whole, decimal_value, number_line_one_way}
-use Rattle.sc_base.proofs.TextLines.{one_line, line_long, line_there, read_nothing, read_more, read_short, read_whole, bad_end, bad_line, one_reading, whole_not_bad, whole_not_broken, bad_not_broken, one_bad}
+use Rattle.sc_base.proofs.NumeralLemmas.{head_is, append_cancel, whole_one_way, number_line_one_way}
+use Rattle.sc_base.proofs.TextLines.{one_line, line_long, read_nothing, read_more, read_short, read_whole, bad_end, bad_line, one_reading, whole_not_bad, whole_not_broken, bad_not_broken, one_bad}
 use Rattle.sc_gate.specs.declared.gate.Gate.{Gate}
 use Rattle.sc_gate.specs.Gates.{name_of}
-use Rattle.sc_gate.specs.Lines.{gate_line, number_line}
+use Rattle.sc_gate.specs.Lines.{gate_line}
 use Rattle.sc_gate.specs.Numbers.{Numbers}
 use Rattle.sc_gate.proofs.TextLemmas.{line_one_way, gate_line-IsLine}
-use Rattle.sc_read.specs.GateFronts.{counts, IsNextGate, GateFront}
-use Rattle.sc_read.specs.FlatStages.{Stage, Title, Qubits, Cbits, Gates, Body, Limit, TooManyGates, CountLine, GatesLine, BeginsBody, PassesOver, AddsGate, Goes, Breaks, MayEnd}
+use Rattle.sc_read.specs.GateFronts.{counts, GateFront}
+use Rattle.sc_read.specs.FlatStages.{Stage, Title, Qubits, Cbits, Gates, Body, Limit, TooManyGates, CountLine, GatesLine, Goes, Breaks, MayEnd}
 use Rattle.sc_read.specs.declared.flat.FlatText.{FlatText}
-use Rattle.sc_read.specs.declared.flat.BodyLine.{BodyLine}
 use Rattle.sc_read.specs.declared.flat.BodyLine.TheVariants.{PassedOver, OneGate}
 use Rattle.sc_read.specs.FlatReads.{after_line, IsFlatText, IsBadLine, HasTooManyGates}
 use Rattle.sc_read.proofs.GateParts.{line_in_parts}

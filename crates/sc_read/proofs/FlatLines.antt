@@ -1,23 +1,23 @@
 -- Lines in front of lines, and the lines of a flat text.
-use Rattle.std.proofs.Common.{◌≡◌, ◌≢◌, ℕ, suc, ◌+◌, ◌-◌, ◌<◌, ◌≤◌, ◌^◌, Bool, true, false, nat_le, Option, Some, None, List, [], ◌∷◌, ◌++◌, length, map, refl, sym, ap, ◌∙◌, subst, arith, append_assoc, append-nil, length-append, inl, inr}
+use Rattle.std.proofs.Common.{◌≡◌, ◌≢◌, ℕ, ◌+◌, ◌<◌, ◌≤◌, ◌^◌, Bool, true, false, nat_le, Option, Some, None, List, [], ◌∷◌, ◌++◌, length, map, refl, sym, ap, ◌∙◌, subst, arith, append_assoc, append-nil, inr}
 use Rattle.std.specs.Prelude.{decimal, codes, if◌then◌else◌}
 use Rattle.std.specs.List.{AllByRecursion}
 use Rattle.std.proofs.lemmas.Bool.{leb-true, leb-false}
 use Rattle.std.specs.Str.Parse.{digits_value}
 use Rattle.sc_base.specs.Limits.{most_gates, most_flat_wires}
-use Rattle.sc_base.specs.Lines.{IsLine, joined, GoThrough, ReadTo, IsReadWhole, IsFirstBad, IsFirstBreak, LeadsOneWay}
-use Rattle.sc_base.specs.Numerals.{EndsNumber, IsWhole, WholeFront, IsValueOf}
+use Rattle.sc_base.specs.Lines.{IsLine, joined, GoThrough, ReadTo, IsReadWhole, IsFirstBad, IsFirstBreak}
+use Rattle.sc_base.specs.Numerals.{IsWhole, WholeFront, IsValueOf}
 use Rattle.sc_base.specs.declared.reader.Whole.{Whole}
 use Rattle.sc_base.specs.declared.reader.Whole.TheVariants.{Fits, Past}
-use Rattle.sc_base.proofs.FeedLemmas.{NoFeed, no_feed-append, no_feed_from_test, no_feed_digits, line_from, number_line-IsLine}
-use Rattle.sc_base.proofs.NumeralLemmas.{tail_is, append_cancel, whole_one_way, decimal_whole, decimal_value, number_line_one_way}
-use Rattle.sc_base.proofs.TextLines.{one_line, line_there, read_nothing, bad_end, bad_line}
+use Rattle.sc_base.proofs.FeedLemmas.{no_feed-append, no_feed_from_test, no_feed_digits, line_from, number_line-IsLine}
+use Rattle.sc_base.proofs.NumeralLemmas.{append_cancel, whole_one_way, decimal_whole, decimal_value}
+use Rattle.sc_base.proofs.TextLines.{read_nothing}
 use Rattle.sc_gate.specs.declared.gate.Gate.{Gate}
 use Rattle.sc_gate.specs.Lines.{gate_line, gate_lines, flat_text, number_line}
 use Rattle.sc_gate.specs.Numbers.{Numbers}
-use Rattle.sc_gate.proofs.TextLemmas.{line_one_way, gate_line-IsLine}
+use Rattle.sc_gate.proofs.TextLemmas.{gate_line-IsLine}
 use Rattle.sc_read.specs.GateFronts.{counts, IsNextGate}
-use Rattle.sc_read.specs.FlatStages.{Stage, Title, Qubits, Cbits, Gates, Body, Limit, TooManyGates, CountLine, GatesLine, BeginsBody, PassesOver, AddsGate, Goes, Breaks, MayEnd}
+use Rattle.sc_read.specs.FlatStages.{Stage, Title, Qubits, Cbits, Gates, Body, Limit, TooManyGates, GatesLine, BeginsBody, Goes, Breaks, MayEnd}
 use Rattle.sc_read.specs.declared.flat.FlatText.{FlatText}
 use Rattle.sc_read.specs.declared.flat.FlatFault.{FlatFault}
 use Rattle.sc_read.specs.declared.flat.FlatFault.TheVariants.{SchedTooLarge, BadQasm, Memory}

@@ -1,7 +1,6 @@
 -- Gate lines, part by part: what stands behind each part that was read is what stands there in the line of a gate.
 use Rattle.std.proofs.Common.{◌≡◌, ◌≢◌, ℕ, zero, suc, ◌+◌, ◌<◌, ◌≤◌, ◌^◌, Bool, true, false, not, ◌&&◌, nat_eq, ℤ, pos, negsuc, FitsSigned, w64, Option, Some, None, List, [], ◌∷◌, ◌++◌, map, length, get_or, decimal, length-append, refl, sym, ap, ◌∙◌, subst, arith, append_assoc, append-nil, inl, inr, true≢false, eq-eqb}
-use Rattle.std.specs.Prelude.{option_to_list, IsSome, IfNone, All, codes}
-use Rattle.std.specs.Char.{is_ascii_digit}
+use Rattle.std.specs.Prelude.{option_to_list, IfNone, All, codes}
 use Rattle.std.specs.List.{list_all, join_with_byte, AllByRecursion}
 use Rattle.std.specs.Str.Parse.{AllDigits}
 use Rattle.std.specs.Ordering.{int_eq}
@@ -9,7 +8,7 @@ use Rattle.std.proofs.lemmas.Bool.{false≢true}
 use Rattle.std.proofs.lemmas.Str.Parse.{digit_from_value}
 use Rattle.sc_base.specs.Decimals.{units_text, fixed_text}
 use Rattle.sc_base.specs.GateNames.{gate_text}
-use Rattle.sc_base.specs.Numerals.{EndsNumber, FixedFront}
+use Rattle.sc_base.specs.Numerals.{EndsNumber}
 use Rattle.sc_base.specs.declared.names.Class.{Class}
 use Rattle.sc_base.specs.declared.names.Class.TheVariants.{Q, C}
 use Rattle.sc_base.specs.declared.names.Fixed.{Fixed}
@@ -23,16 +22,16 @@ use Rattle.sc_gate.specs.declared.gate.Wire.{Wire}
 use Rattle.sc_gate.specs.declared.gate.Kind.{Kind}
 use Rattle.sc_gate.specs.declared.gate.Kind.TheVariants as kind
 use Rattle.sc_gate.specs.declared.gate.Gate.{Gate}
-use Rattle.sc_gate.specs.Gates.{name_of, operands, class_of, SuitsName, AreDistinct, IsWellFormed}
-use Rattle.sc_gate.specs.Kinds.{plain_kind, rotation_kind, preparation_kind, IsNamed}
+use Rattle.sc_gate.specs.Gates.{name_of, operands, class_of, SuitsName, IsWellFormed}
+use Rattle.sc_gate.specs.Kinds.{plain_kind, rotation_kind, preparation_kind}
 use Rattle.sc_gate.specs.Lines.{class_letter, wire_text, start_text, value_texts, after_commas, gate_line}
 use Rattle.sc_gate.specs.Numbers.{number_of, IsThere, AreThere}
 use Rattle.sc_gate.specs.SameGates.{value_of}
-use Rattle.sc_gate.specs.Texts.{IsNumbered, HasLine}
+use Rattle.sc_gate.specs.Texts.{IsNumbered}
 use Rattle.sc_gate.proofs.KindLemmas.{kind_named}
 use Rattle.sc_gate.proofs.LineLemmas.{joined_by_commas, after_commas-append}
 use Rattle.sc_gate.proofs.TextLemmas.{wire_one_way}
-use Rattle.sc_read.specs.GateFronts.{counts, IsNextGate, GateFront, WireFront, NextWireFront, EndsWires, both_of, MoreWiresFront, KindFront}
+use Rattle.sc_read.specs.GateFronts.{counts, GateFront, WireFront, NextWireFront, EndsWires, both_of, MoreWiresFront, KindFront}
 
 -- SPACES
 pub space_there : (front more : List ℕ) → get_or (front ++ 32 ∷ more) (length front) 0 ≡ 32

@@ -11,7 +11,7 @@ use Rattle.sc_read.specs.declared.flat.FlatFault.{FlatFault}
 use Rattle.sc_read.specs.declared.flat.FlatFault.TheVariants.{SchedTooLarge, BadQasm, Memory}
 use Rattle.sc_read.specs.declared.flat.BodyLine.{BodyLine}
 use Rattle.sc_read.specs.declared.flat.BodyLine.TheVariants.{PassedOver, OneGate}
-use Rattle.sc_read.specs.FlatStages.{Stage, Title, Body, Limit, TooManyGates, GatesLine, Goes, Breaks, MayEnd}
+use Rattle.sc_read.specs.FlatStages.{Stage, Title, Body, TooManyGates, GatesLine, Goes, Breaks, MayEnd}
 use Rattle.sc_read.specs.GateFronts.{counts}
 
 -- the text is in the grammar, and these are its numbers of wires and its gates

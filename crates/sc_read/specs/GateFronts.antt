@@ -3,7 +3,6 @@ use Rattle.std.specs.Prelude.{◌≡◌, ℕ, FitsSigned, IsSome, Option, List, 
 use Rattle.std.specs.Int.{w64}
 use Rattle.sc_base.specs.declared.names.Class.{Class}
 use Rattle.sc_base.specs.declared.names.GateName.{GateName}
-use Rattle.sc_base.specs.GateNames.{gate_text}
 use Rattle.sc_base.specs.Numerals.{EndsNumber}
 use Rattle.sc_gate.specs.declared.gate.Wire.{Wire}
 use Rattle.sc_gate.specs.declared.gate.Kind.{Kind}

@@ -1,4 +1,4 @@
-use Rattle.std.proofs.Common.{◌≤◌, length}
+use Rattle.std.proofs.Common.{length}
 use Rattle.sc_read.specs.GateFronts.{counts}
 use Rattle.sc_read.proofs.FlatBody.{BodyRead}
 use Rattle.sc_read.proofs.flat.read_body.Given as goal

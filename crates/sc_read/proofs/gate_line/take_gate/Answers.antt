@@ -1,4 +1,4 @@
-use Rattle.std.proofs.Common.{arith, ◌<◌, ◌^◌, true≢false, sym, ◌∙◌}
+use Rattle.std.proofs.Common.{arith, true≢false, sym, ◌∙◌}
 use Rattle.sc_read.proofs.GateParts.{wires_read, no_gate-kind, no_gate-feed, no_gate-formed, gate_read}
 use Rattle.sc_read.proofs.gate_line.take_gate.Goals as goal
 

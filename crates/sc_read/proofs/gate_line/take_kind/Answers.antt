@@ -1,4 +1,4 @@
-use Rattle.std.proofs.Common.{◌∙◌, sym}
+use Rattle.std.proofs.Common.{◌∙◌}
 use Rattle.sc_read.proofs.GateParts.{no_kind, none_from}
 use Rattle.sc_read.proofs.gate_line.take_kind.Goals as goal
 
