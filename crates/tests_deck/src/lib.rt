@@ -10,4 +10,6 @@ mod gates;
 #[cfg(test)]
 mod hier;
 #[cfg(test)]
+mod read;
+#[cfg(test)]
 mod sched;

@@ -1,0 +1,3 @@
+pub mod FlatBody
+pub mod FlatLines
+pub mod GateParts

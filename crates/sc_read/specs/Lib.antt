@@ -1,0 +1,3 @@
+pub mod FlatReads
+pub mod FlatStages
+pub mod GateFronts
