@@ -8,4 +8,6 @@ mod deck;
 #[cfg(test)]
 mod gates;
 #[cfg(test)]
+mod reversible;
+#[cfg(test)]
 mod sched;
