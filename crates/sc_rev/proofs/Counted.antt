@@ -1,6 +1,7 @@
 -- The circuit of a typed function takes as many scratch wires as are counted for it, and each word has its width.
 use Rattle.std.proofs.Common.{◌≡◌, ℕ, zero, suc, ◌+◌, ◌-◌, ◌*◌, ◌<◌, ◌≤◌, Bool, true, false, List, [], ◌∷◌, ◌++◌, length, map, take, drop, slice_index, refl, sym, ap, ◌∙◌, subst, arith, length-append}
 use Rattle.std.specs.Prelude.{min, sum, sum_by}
+use Rattle.std.proofs.Math.Nat.{add-mul, mul-add}
 use Rattle.std.proofs.lemmas.List.Sums.{sum_by-cons}
 use Rattle.sc_syntax.specs.declared.WordOp.{WordOp}
 use Rattle.sc_syntax.specs.declared.WordOp.TheVariants as op
@@ -33,8 +34,13 @@ mul_rest_takes es i w a (f ∷ fs) e h =
     mul_rest_takes es (suc i) w b fs e (fresh_length m.next (length a.word) ∙ h) in
     record { width = r.width; next = omega (arith, r.next, e, h) }
 
-mul_counts : (j : ℕ) → suc j + j * (suc j + (suc j + (suc j - 1))) ≡ suc j * suc j + (suc j - 1) * (suc j + (suc j - 1))
-mul_counts j = omega arith
+mul_counts : (j w d : ℕ) → w ≡ suc j → d ≡ j → w + j * (w + (w + d)) ≡ w * w + d * (w + d)
+mul_counts j w d e f =
+    let p : w ≡ 1 + j = omega arith in
+    let q : w * w ≡ 1 * w + j * w = ap (λ x. x * w) p ∙ add-mul 1 j w in
+    let r : j * (w + (w + d)) ≡ j * w + j * (w + d) = mul-add j w (w + d) in
+    let s : d * (w + d) ≡ j * (w + d) = ap (λ x. x * (w + d)) f in
+    omega (arith, q, r, s)
 
 mul_takes : (es fs : List ℕ) (n w : ℕ) → length es ≡ w → length fs ≡ w → 0 < w → Takes n w (op_scratch op.Mul w) (mul_piece es fs n)
 mul_takes es [] n w e f h = absurd (omega arith)
@@ -44,7 +50,7 @@ mul_takes es (x ∷ fs) n (suc j) e f h =
     let r : Takes (n + length es) (suc j) (length fs * (suc j + (suc j + (suc j - 1)))) (mul_rest es 1 (part_piece es x 0 n) fs) =
     mul_rest_takes es 1 (suc j) (part_piece es x 0 n) fs e (fresh_length n (length es) ∙ e) in
     let k : length fs * (suc j + (suc j + (suc j - 1))) ≡ j * (suc j + (suc j + (suc j - 1))) = ap (λ y. y * (suc j + (suc j + (suc j - 1)))) l in
-    record { width = r.width; next = omega (arith, r.next, mul_counts j) }
+    record { width = r.width; next = omega (arith, r.next, mul_counts j (suc j) (suc j - 1) refl (omega arith)) }
 
 -- an operator
 pub op_takes : (o : WordOp) (es fs : List ℕ) (n w : ℕ) → length es ≡ w → length fs ≡ w → 0 < w → Takes n (op_width o w) (op_scratch o w) (op_piece o es fs n)

@@ -1,6 +1,7 @@
 -- The next fresh wire only grows; chains, shifts, products and bindings go over their parts as lists.
 use Rattle.std.proofs.Common.{◌≡◌, ℕ, zero, suc, ◌+◌, ◌-◌, ◌<◌, ◌≤◌, Bool, true, false, List, [], ◌∷◌, ◌++◌, length, map, drop, get_or, append_assoc, append-nil, add-one, drop-cons, refl, sym, ap, ◌∙◌, subst, arith}
 use Rattle.std.specs.Prelude.{min, sum}
+use Rattle.std.proofs.lemmas.List.Sums.{sum_by-cons}
 use Rattle.std.specs.declared.alloc.Global.{Global}
 use Rattle.std.specs.declared.boxed.Box.{Box}
 use Rattle.std.specs.declared.vec.Vec.{Vec}
@@ -375,4 +376,4 @@ words_more params i d n n' words words' w all h m q k g =
     ∙ ap (λ (x : List ℕ). wires_of words ++ words_from n x) (sym (dropped params i d h)) ∙ g
 
 pub sum_more : (params : List ℕ) (i d : ℕ) → i < length params → sum (drop i params) ≡ get_or params i d + sum (drop (i + 1) params)
-sum_more params i d h = ap sum (dropped params i d h)
+sum_more params i d h = ap sum (dropped params i d h) ∙ sum_by-cons (λ (x : ℕ). x) (get_or params i d) (drop (i + 1) params)

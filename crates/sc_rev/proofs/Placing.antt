@@ -1,6 +1,7 @@
 -- The gates of a function stand on its own qubits, and on other wires they do the same.
 use Rattle.std.proofs.Common.{◌≡◌, ℕ, zero, suc, ◌+◌, ◌-◌, ◌<◌, ◌≤◌, ◌≢◌, ◌⊎◌, inl, inr, Bool, true, false, ◌&&◌, List, [], ◌∷◌, ◌++◌, length, map, take, drop, reverse, bit_xor, refl, sym, ap, ◌∙◌, subst, arith, length-append}
 use Rattle.std.specs.Prelude.{sum}
+use Rattle.std.proofs.lemmas.List.Sums.{sum_by-cons}
 use Rattle.std.specs.List.{AllByRecursion}
 use Rattle.std.proofs.Math.Seq.{take-append_seam, drop-append_seam}
 use Rattle.sc_gate.specs.declared.gate.Wire.{Wire}
@@ -189,7 +190,8 @@ words_are f bits n (w ∷ ws) =
     let split : map r (wires_from n (w + sum ws)) ≡ first ++ rest = ap (map r) (wires_split n w (sum ws)) ∙ map_append r (wires_from n w) (wires_from (n + w) (sum ws)) in
     let head : take w (first ++ rest) ≡ first = ap (λ k. take k (first ++ rest)) (sym l) ∙ take-append_seam first rest in
     let tail : drop w (first ++ rest) ≡ rest = ap (λ k. drop k (first ++ rest)) (sym l) ∙ drop-append_seam first rest in
-    ap (numbers_of (w ∷ ws)) split ∙ ap (λ x. number x ∷ numbers_of ws (drop w (first ++ rest))) head ∙ ap (λ x. number first ∷ numbers_of ws x) tail ∙ ap (λ x. number first ∷ x) (words_are f bits (n + w) ws)
+    let more : sum (w ∷ ws) ≡ w + sum ws = sum_by-cons (λ (x : ℕ). x) w ws in
+    ap (λ k. numbers_of (w ∷ ws) (map r (wires_from n k))) more ∙ ap (numbers_of (w ∷ ws)) split ∙ ap (λ x. number x ∷ numbers_of ws (drop w (first ++ rest))) head ∙ ap (λ x. number first ∷ numbers_of ws x) tail ∙ ap (λ x. number first ∷ x) (words_are f bits (n + w) ws)
 
 -- the qubits' truth values as one list
 read_below : (f : Wire → Wire) (bits : List Bool) (lo w n k : ℕ) → ((j : ℕ) → lo + w ≤ j → j < lo + w + n → read f bits j ≡ false) → k < lo + w + n

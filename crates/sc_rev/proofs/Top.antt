@@ -4,6 +4,7 @@ use mathlib.Core.Path.{fun_ext}
 use Rattle.sc_rev.specs.declared.bit_gate.BitGate.{BitGate}
 use Rattle.sc_rev.specs.declared.bit_gate.BitGate.TheVariants.{X, Cnot, Toffoli}
 use Rattle.std.specs.Prelude.{sum}
+use Rattle.std.proofs.lemmas.List.Sums.{sum_by-cons}
 use Rattle.sc_gate.specs.BitRuns.{xors}
 use Rattle.sc_gate.specs.Runs.{xor, bit_at, xor_at, bit_step, bit_run, bit, number}
 use Rattle.sc_word.specs.Pure.{PureTyped, PureTypedLinks, PureTypedExpr}
@@ -143,16 +144,17 @@ params_scope : (lo hi m n : ℕ) (widths : List ℕ) (a b c : List Bool) → n �
     → Scope lo hi m (bit_at (a ++ (b ++ c))) (words_from n widths) widths (numbers_of widths b)
 params_scope lo hi m n [] a b c e h l k = tt
 params_scope lo hi m n (w ∷ widths) a b c e h l k =
-    let t : (take w b ++ drop w b ≡ b) × (length (take w b) ≡ w) = take_whole w b (omega arith) in
+    let more : sum (w ∷ widths) ≡ w + sum widths = sum_by-cons (λ (x : ℕ). x) w widths in
+    let t : (take w b ++ drop w b ≡ b) × (length (take w b) ≡ w) = take_whole w b (omega (arith, more)) in
     let x : List Bool = take w b in
     let y : List Bool = drop w b in
     let f : a ++ (x ++ (y ++ c)) ≡ a ++ (b ++ c) = ap (λ l. a ++ l) (sym (append_assoc x y c) ∙ ap (λ l. l ++ c) t.0) in
     let g : (a ++ x) ++ (y ++ c) ≡ a ++ (b ++ c) = append_assoc a x (y ++ c) ∙ f in
     let len : length x + length y ≡ length b = sym (length-append x y) ∙ ap length t.0 in
     let v : map (bit_at (a ++ (b ++ c))) (wires_from n w) ≡ x = ap (λ l. map (bit_at l) (wires_from n w)) (sym f) ∙ ap (λ k. map (bit_at (a ++ (x ++ (y ++ c)))) (wires_from n k)) (sym t.1) ∙ read_part a x (y ++ c) n e in (
-      record { held = wires_held lo hi m n w (omega arith) k; width = fresh_length n w; value = ap number v },
+      record { held = wires_held lo hi m n w (omega (arith, more)) k; width = fresh_length n w; value = ap number v },
       subst (λ l. Scope lo hi m (bit_at l) (words_from (n + w) widths) widths (numbers_of widths y)) g
-          (params_scope lo hi m (n + w) widths (a ++ x) y c (omega (arith, length-append a x, t.1)) (omega (arith, t.1)) (omega arith) k),
+          (params_scope lo hi m (n + w) widths (a ++ x) y c (omega (arith, length-append a x, t.1)) (omega (arith, t.1, more, len)) (omega (arith, more)) k),
     )
 
 copies_within : (m : ℕ) (rs : List ℕ) (o : ℕ) → o + length rs ≤ m → Every (λ g. target g < m) (copies rs o)
