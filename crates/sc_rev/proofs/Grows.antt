@@ -1,5 +1,5 @@
 -- The next fresh wire only grows; chains, shifts, products and bindings go over their parts as lists.
-use Rattle.std.proofs.Common.{◌≡◌, ℕ, zero, suc, ◌+◌, ◌-◌, ◌<◌, ◌≤◌, Bool, true, false, List, [], ◌∷◌, ◌++◌, length, map, drop, get_or, append_assoc, append-nil, add-one, drop-cons, refl, sym, ap, ◌∙◌, subst, arith}
+use Rattle.std.proofs.Common.{◌≡◌, ℕ, zero, suc, ◌+◌, ◌-◌, ◌<◌, ◌≤◌, Bool, true, false, List, [], ◌∷◌, ◌++◌, length, map, drop, get_or, append_assoc, append-nil, add-one, drop-cons, take, Result, Ok, Err, IfOk, if◌then◌else◌, refl, sym, ap, ◌∙◌, subst, arith}
 use Rattle.std.specs.Prelude.{min, sum}
 use Rattle.std.proofs.lemmas.List.Sums.{sum_by-cons}
 use Rattle.std.specs.declared.alloc.Global.{Global}
@@ -18,8 +18,8 @@ use Rattle.sc_word.specs.Typed.{TypedWords}
 use Rattle.sc_word.proofs.TypedRows.{pure_typed_chain}
 use Rattle.sc_rev.specs.declared.bit_gate.BitGate.{BitGate}
 use Rattle.sc_rev.specs.declared.draft.Draft.{Draft}
-use Rattle.sc_rev.specs.Cells.{wires_from}
-use Rattle.sc_rev.specs.Circuits.{Circuit, joined, then_piece, part_piece, add_piece, mul_rest, mul_piece, sub_piece, not_piece}
+use Rattle.sc_rev.specs.Cells.{wires_from, not_cell, same_cell}
+use Rattle.sc_rev.specs.Circuits.{Circuit, joined, then_piece, part_piece, add_piece, mul_rest, mul_piece, each_piece, not_piece, adder_piece, sub_piece, last_wire, less_piece, all_piece, equal_piece, left_piece, right_piece}
 use Rattle.sc_rev.specs.Functions.{op_piece, linked, shift_piece, shifted, word_at, circuit_node, circuit_row, circuit, circuit_all, words_from, operands_of, compute}
 use Rattle.sc_rev.specs.Emitting.{Draws, wires_of, only_word, after_gates, InChain, InShifts, InProduct, InAll}
 
@@ -120,6 +120,111 @@ draws_same a b old new w e h = subst (λ (c : Circuit). Draws c old new w) e h
 
 pub none_drawn : (word : List ℕ) (d : Draft) → Draws (only_word word d.next) d d word
 none_drawn word d = record { gates = sym (append-nil d.gates.items); next = refl; word_is = refl }
+
+-- what a call's answer says, and what follows from it
+pub ok_then : {A E : Type 0} (P Q : A → Type 0) → ((x : A) → P x → Q x) → (r : Result A E) → IfOk r P → IfOk r Q
+ok_then P Q f (Ok x) h = f x h
+ok_then P Q f (Err e) h = h
+
+-- ---- differences, order, equality
+
+pub difference_drawn : (e f : List ℕ) (old one two new : Draft) (i i' s s' s'' r : List ℕ) → Draws (not_piece e old.next) old one i → i' ≡ i → Draws (add_piece i' f one.next) one two s → s' ≡ s → s'' ≡ s
+    → Draws (each_piece not_cell s' s'' two.next) two new r → Draws (sub_piece e f old.next) old new r
+difference_drawn e f old one two new i i' s s' s'' r h p k q q' l =
+    let inverse : Circuit = not_piece e old.next in
+    let sum : Circuit = add_piece inverse.word f inverse.next in
+    let a : add_piece i' f one.next ≡ sum = ap (λ (x : List ℕ). add_piece x f one.next) p ∙ piece_same inverse (λ x n. add_piece x f n) old one i h in
+    let k' : Draws sum one two s = draws_same (add_piece i' f one.next) sum one two s a k in
+    let b : each_piece not_cell s' s'' two.next ≡ not_piece sum.word sum.next =
+        ap (λ (x : List ℕ). each_piece not_cell x s'' two.next) q ∙ ap (λ (x : List ℕ). each_piece not_cell s x two.next) q' ∙ piece_same sum not_piece one two s k' in
+    draws_joined inverse (joined sum (not_piece sum.word sum.next)) (joined sum (not_piece sum.word sum.next)) old one new i r h refl
+    (draws_joined sum (not_piece sum.word sum.next) (each_piece not_cell s' s'' two.next) one two new s r k' b l)
+
+pub less_drawn : (e f : List ℕ) (k : ℕ) (old one two : Draft) (i i' s r : List ℕ) → Draws (not_piece e old.next) old one i → i' ≡ i → k ≡ length e → Draws (adder_piece i' f one.next k) one two s → r ≡ (two.next - 1) ∷ []
+    → Draws (less_piece e f old.next) old two r
+less_drawn e f k old one two i i' s r h p q d g =
+    let inverse : Circuit = not_piece e old.next in
+    let sum : Circuit = adder_piece inverse.word f inverse.next (length e) in
+    let a : adder_piece i' f one.next k ≡ sum =
+        ap (λ (x : List ℕ). adder_piece x f one.next k) p ∙ ap (adder_piece i f one.next) q ∙ piece_same inverse (λ x n. adder_piece x f n (length e)) old one i h in
+    let d' : Draws sum one two s = draws_same (adder_piece i' f one.next k) sum one two s a d in
+    draws_joined inverse (last_wire sum) (last_wire sum) old one two i r h refl
+    (record { gates = d'.gates; next = d'.next; word_is = g ∙ ap (λ x. (x - 1) ∷ []) d'.next })
+
+pub equal_drawn : (e f : List ℕ) (old one new : Draft) (s s' r : List ℕ) → Draws (each_piece same_cell e f old.next) old one s → s' ≡ s → Draws (all_piece s' one.next) one new r → Draws (equal_piece e f old.next) old new r
+equal_drawn e f old one new s s' r h p k =
+    let same : Circuit = each_piece same_cell e f old.next in
+    draws_joined same (all_piece same.word same.next) (all_piece s' one.next) old one new s r h (ap (λ (x : List ℕ). all_piece x one.next) p ∙ piece_same same all_piece old one s h) k
+
+-- the room of their parts
+pub difference_sum_room : (e f : List ℕ) (old one : Draft) (i i' : List ℕ) → Draws (not_piece e old.next) old one i → i' ≡ i → (sub_piece e f old.next).next ≤ 65536 → (add_piece i' f one.next).next ≤ 65536
+difference_sum_room e f old one i i' h p g =
+    let inverse : Circuit = not_piece e old.next in
+    let sum : Circuit = add_piece inverse.word f inverse.next in
+    let a : add_piece i' f one.next ≡ sum = ap (λ (x : List ℕ). add_piece x f one.next) p ∙ piece_same inverse (λ x n. add_piece x f n) old one i h in
+    subst (λ (c : Circuit). c.next ≤ 65536) (sym a) (omega arith)
+
+pub difference_last_room : (e f : List ℕ) (old one two : Draft) (i i' s s' : List ℕ) → Draws (not_piece e old.next) old one i → i' ≡ i → Draws (add_piece i' f one.next) one two s → s' ≡ s → (sub_piece e f old.next).next ≤ 65536
+    → two.next + length s' ≤ 65536
+difference_last_room e f old one two i i' s s' h p k q g =
+    let inverse : Circuit = not_piece e old.next in
+    let sum : Circuit = add_piece inverse.word f inverse.next in
+    let a : add_piece i' f one.next ≡ sum = ap (λ (x : List ℕ). add_piece x f one.next) p ∙ piece_same inverse (λ x n. add_piece x f n) old one i h in
+    let k' : Draws sum one two s = draws_same (add_piece i' f one.next) sum one two s a k in
+    let w : length s' ≡ length sum.word = ap length (q ∙ k'.word_is) in
+    omega (arith, k'.next, w)
+
+pub less_sum_room : (e f : List ℕ) (old one : Draft) (i i' : List ℕ) → Draws (not_piece e old.next) old one i → i' ≡ i → (less_piece e f old.next).next ≤ 65536 → one.next + length i' + length e ≤ 65536
+less_sum_room e f old one i i' h p g =
+    let w : length i' ≡ length (not_piece e old.next).word = ap length (p ∙ h.word_is) in
+    omega (arith, h.next, w)
+
+pub equal_last_room : (e f : List ℕ) (old one : Draft) (s s' : List ℕ) → Draws (each_piece same_cell e f old.next) old one s → s' ≡ s → (equal_piece e f old.next).next ≤ 65536 → (all_piece s' one.next).next ≤ 65536
+equal_last_room e f old one s s' h p g =
+    let w : length s' ≡ length (each_piece same_cell e f old.next).word = ap length (p ∙ h.word_is) in
+    omega (arith, h.next, w)
+
+-- ---- other wires
+
+shortest : (a b : ℕ) → a ≤ b → min a b ≡ a
+shortest a b h = omega arith
+
+pub left_drawn : (count : ℕ) (e : List ℕ) (old new : Draft) (w : List ℕ) → count ≤ length e → new.gates ≡ old.gates → new.next ≡ old.next + count → w ≡ wires_from old.next count ++ take (length e - count) e → Draws (left_piece count e old.next) old new w
+left_drawn count e old new w h g n p =
+    let m : min count (length e) ≡ count = shortest count (length e) h in
+    record {
+      gates = ap (λ (v : Vec BitGate Global). v.items) g ∙ sym (append-nil old.gates.items);
+      next = n ∙ ap (λ x. old.next + x) (sym m);
+      word_is = p ∙ ap (λ x. wires_from old.next x ++ take (length e - x) e) (sym m);
+    }
+
+pub right_drawn : (count : ℕ) (e : List ℕ) (old new : Draft) (w : List ℕ) → count ≤ length e → new.gates ≡ old.gates → new.next ≡ old.next + count → w ≡ drop count e ++ wires_from old.next count → Draws (right_piece count e old.next) old new w
+right_drawn count e old new w h g n p =
+    let m : min count (length e) ≡ count = shortest count (length e) h in
+    record {
+      gates = ap (λ (v : Vec BitGate Global). v.items) g ∙ sym (append-nil old.gates.items);
+      next = n ∙ ap (λ x. old.next + x) (sym m);
+      word_is = p ∙ ap (λ x. drop x e ++ wires_from old.next x) (sym m);
+    }
+
+least_twice : (a b : ℕ) → min (min a b) b ≡ min a b
+least_twice a b = omega arith
+
+shift_same_by : (left : Bool) (by : Width) (e : List ℕ) (n : ℕ) → (if left then left_piece (min (amount by) (length e)) e n else right_piece (min (amount by) (length e)) e n) ≡ shift_piece (record { left = left; by = by }) e n
+shift_same_by true by e n = ap (λ k. (let c : Circuit = record { gates = []; word = wires_from n k ++ take (length e - k) e; next = n + k } in c)) (least_twice (amount by) (length e))
+shift_same_by false by e n = ap (λ k. (let c : Circuit = record { gates = []; word = drop k e ++ wires_from n k; next = n + k } in c)) (least_twice (amount by) (length e))
+
+pub shift_left : (link : ShiftLink) (count : ℕ) (e : List ℕ) (old new : Draft) (w : List ℕ) → link.left ≡ true → count ≡ min (amount link.by) (length e) → Draws (left_piece count e old.next) old new w → Draws (shift_piece link e old.next) old new w
+shift_left link count e old new w h k d =
+    let least : ℕ = min (amount link.by) (length e) in
+    draws_same (left_piece count e old.next) (shift_piece link e old.next) old new w
+    (ap (λ x. left_piece x e old.next) k ∙ ap (λ x. if x then left_piece least e old.next else right_piece least e old.next) (sym h) ∙ shift_same_by link.left link.by e old.next) d
+
+pub shift_right : (link : ShiftLink) (count : ℕ) (e : List ℕ) (old new : Draft) (w : List ℕ) → link.left ≡ false → count ≡ min (amount link.by) (length e) → Draws (right_piece count e old.next) old new w → Draws (shift_piece link e old.next) old new w
+shift_right link count e old new w h k d =
+    let least : ℕ = min (amount link.by) (length e) in
+    draws_same (right_piece count e old.next) (shift_piece link e old.next) old new w
+    (ap (λ x. right_piece x e old.next) k ∙ ap (λ x. if x then left_piece least e old.next else right_piece least e old.next) (sym h) ∙ shift_same_by link.left link.by e old.next) d
 
 -- ---- shifts
 

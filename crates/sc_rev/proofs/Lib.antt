@@ -10,6 +10,7 @@ pub mod Means
 pub mod Top
 pub mod Counted
 pub mod Placing
+pub mod Whole
 pub mod Grows
 pub mod Emitting
 mod Worked

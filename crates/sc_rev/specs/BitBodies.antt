@@ -26,6 +26,10 @@ scratch_items (suc n) = item.Fresh Q (suc n) ∷ []
 abbrev pub gate_items : List Gate → List Item
 gate_items gates = map item.Gate gates
 
+-- so many parameter qubits, and the scratch
+abbrev pub scratch_body : ℕ → ℕ → Contents
+scratch_body operands scratch = record { params = record { qubits = operands; cbits = 0 }; items = scratch_items scratch }
+
 -- THE BODY OF A CLASSICAL FUNCTION: its parameters are the qubits of the words in order and of the output, and its items the scratch
 -- and then the gates
 abbrev pub reversible_body : TypedWords → Contents

@@ -5,7 +5,7 @@ ghost use Rattle.sc_deck.specs.Bodies.{wires_of as numbers_in};
 ghost use Rattle.sc_deck.specs.Items.{GateFits};
 ghost use Rattle.sc_word.specs.Pure.{pure_typed_expr};
 ghost use Rattle.sc_word.specs.Scratch.{fn_wires};
-ghost use Rattle.sc_rev.specs.BitBodies.{gate_items, reversible_body};
+ghost use Rattle.sc_rev.specs.BitBodies.{gate_items, scratch_body, reversible_body};
 ghost use Rattle.sc_rev.specs.Cells.{copies, gate_of};
 ghost use Rattle.sc_rev.specs.Functions.{circuit_all, words_from, steps_of};
 ghost use Rattle.sc_rev.specs.Emitting.{Draws, wires_of};
@@ -101,6 +101,18 @@ fn steps(alloc: Global, f: &TypedFn) -> Result<Vec<BitGate>, Memory>
     Ok(gates)
 }
 
+/// A body with so many parameter qubits, and one item for the scratch where there is any.
+fn with_scratch(alloc: Global, operands: u32, scratch: u32) -> Result<Body, Memory>
+    requires { operands + scratch ≤ 65536 }
+    ensures { IfOk result (λ body. body ≡ scratch_body operands scratch) }
+{
+    let mut body = Body::new(alloc, operands, 0);
+    if scratch > 0 {
+        body.push_fresh(Class::Q, scratch)?;
+    }
+    Ok(body)
+}
+
 fn push_gates(body: &mut Body, gates: &[BitGate]) -> Result<(), Memory>
     requires { AllByRecursion (λ g. GateFits (numbers_in body.old) (gate_of g)) gates.now }
     ensures { OnOk result (body.new ≡ record body.old { items = body.old.items ++ gate_items (map gate_of gates.now) }) }
@@ -120,12 +132,9 @@ pub fn reversible(alloc: Global, f: &TypedFn) -> Result<Body, Memory>
     ensures { IfOk result (λ body. (body ≡ reversible_body f.now) × IsReversible f.now) }
 {
     let gates = steps(alloc, f)?;
-    let scratch = f.scratch() as u32;
-    let operands = (f.wires() - f.scratch()) as u32;
-    let mut body = Body::new(alloc, operands, 0);
-    if scratch > 0 {
-        body.push_fresh(Class::Q, scratch)?;
-    }
+    let scratch = f.scratch();
+    let operands = f.wires() - scratch;
+    let mut body = with_scratch(alloc, operands as u32, scratch as u32)?;
     push_gates(&mut body, gates.as_slice())?;
     Ok(body)
 }
