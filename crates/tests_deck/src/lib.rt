@@ -8,6 +8,4 @@ mod deck;
 #[cfg(test)]
 mod gates;
 #[cfg(test)]
-mod reversible;
-#[cfg(test)]
 mod sched;
