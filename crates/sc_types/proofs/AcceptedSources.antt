@@ -1,11 +1,10 @@
 -- Each part of a checked source is accepted.
-use Rattle.std.proofs.Common.{◌≡◌, ℕ, suc, ◌+◌, Bool, true, false, cond, not, ◌&&◌, ◌||◌, List, [], ◌∷◌, ◌++◌, length, map, Option, Some, None, Result, Ok, Err, refl, sym, ap, subst, ◌∙◌, append_assoc, append-nil}
-use Rattle.std.specs.Prelude.{is_some, option_map, find, replicate}
+use Rattle.std.proofs.Common.{◌≡◌, ℕ, Bool, true, false, cond, ◌||◌, List, [], ◌∷◌, ◌++◌, map, Option, Some, None, Ok, Err, refl, sym, ap, subst, ◌∙◌, append_assoc, append-nil}
+use Rattle.std.specs.Prelude.{is_some, option_map, find}
 use Rattle.std.specs.List.{All, AllByRecursion, list_any}
 use Rattle.std.proofs.lemmas.List.Elements.{All-head, All-tail}
 use Rattle.sc_base.specs.Texts.{same}
 use Rattle.sc_syntax.specs.declared.Kind.{Kind}
-use Rattle.sc_syntax.specs.declared.Kind.TheVariants as kind
 use Rattle.sc_syntax.specs.declared.Name.{Name}
 use Rattle.sc_syntax.specs.declared.Sort.{Sort}
 use Rattle.sc_syntax.specs.declared.Sort.TheVariants as sort
@@ -13,7 +12,7 @@ use Rattle.sc_syntax.specs.declared.Param.{Param}
 use Rattle.sc_syntax.specs.declared.Module.{Module}
 use Rattle.sc_syntax.specs.declared.Part.{Part}
 use Rattle.sc_syntax.specs.declared.Part.TheVariants as part
-use Rattle.sc_syntax.specs.Alike.{PureParam, pure_sort, pure_param, pure_stmt, pure_part, in_row}
+use Rattle.sc_syntax.specs.Alike.{pure_sort, pure_param, pure_stmt, pure_part, in_row}
 use Rattle.sc_syntax.specs.Formed.{IsFormedStmt, IsFormedPart}
 use Rattle.sc_syntax.specs.Kind.{Kinds}
 use Rattle.sc_word.specs.Typed.{TypedWords}
@@ -21,11 +20,11 @@ use Rattle.sc_types.specs.declared.fault.TypeFault.TheVariants.{NoMain, Redefine
 use Rattle.sc_types.specs.Checks.{Check, check, first_fault}
 use Rattle.sc_types.specs.Declarations.{Declaration, is_new, declared_kind, or_pi}
 use Rattle.sc_types.specs.Parameters.{or_int}
-use Rattle.sc_types.specs.Scopes.{Known, Stands, known, kind_here, kind_in, over}
-use Rattle.sc_types.specs.Sources.{is_int_named, or_later, length_kinds, param_kind, length_checks, walk_params, walk_stmts, walk_module, is_new_part, part_checks, parts_checks, is_main}
+use Rattle.sc_types.specs.Scopes.{Known, Stands, known, kind_here, over}
+use Rattle.sc_types.specs.Sources.{is_int_named, length_kinds, param_kind, length_checks, walk_params, walk_stmts, walk_module, is_new_part, part_checks, parts_checks, is_main}
 use Rattle.sc_types.specs.Statements.{Walk, part_name, param_want, part_wants, named_wants}
 use Rattle.sc_types.specs.Typing.{IsTyped, AreTyped, TypedSource, IsChecked}
-use Rattle.sc_types.specs.Accepted.{IsInt, IsNew, with_name, Taken, AreFine, kind_of_sort, is_int_of_name, names_of_length, HasLength, AreParams, with_params, name_of_part, want_of_sort, taken_by, taken_in, IsAcceptedPart, AreAccepted, IsAccepted}
+use Rattle.sc_types.specs.Accepted.{IsNew, with_name, Taken, AreFine, kind_of_sort, is_int_of_name, names_of_length, HasLength, AreParams, with_params, name_of_part, want_of_sort, taken_by, taken_in, IsAcceptedPart, AreAccepted, IsAccepted}
 use Rattle.sc_types.proofs.Accepting.{int_fine, stmts_fine}
 use Rattle.sc_types.proofs.ActWalks.{body_runs}
 use Rattle.sc_types.proofs.NamedParts.{fine_first, fine_second}

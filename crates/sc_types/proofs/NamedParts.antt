@@ -1,11 +1,10 @@
 -- The parts of a well typed source by their names, and its `main`.
-use Rattle.std.proofs.Common.{◌≡◌, ℕ, zero, suc, ◌+◌, Bool, true, false, cond, not, ◌&&◌, nat_eq, List, [], ◌∷◌, ◌++◌, length, map, take, Option, Some, None, refl, sym, ap, subst, ◌∙◌, append_assoc, append-nil, eqb-true}
+use Rattle.std.proofs.Common.{◌≡◌, ℕ, zero, suc, Bool, true, false, cond, not, nat_eq, List, [], ◌∷◌, ◌++◌, length, take, Option, Some, None, refl, sym, ap, subst, ◌∙◌, append_assoc, append-nil, eqb-true}
 use Rattle.std.specs.Prelude.{slice_get, option_map, codes}
 use Rattle.std.specs.List.{list_any}
 use Rattle.std.specs.Cmp.Lexicographic.{same_text}
 use Rattle.std.proofs.lemmas.Bool.{and_parts}
 use Rattle.sc_base.specs.Texts.{same}
-use Rattle.sc_syntax.specs.declared.Module.{Module}
 use Rattle.sc_syntax.specs.declared.Param.{Param}
 use Rattle.sc_syntax.specs.declared.Part.{Part}
 use Rattle.sc_syntax.specs.declared.Part.TheVariants as part
@@ -14,7 +13,7 @@ use Rattle.sc_types.specs.declared.fault.TypeFault.{TypeFault}
 use Rattle.sc_types.specs.declared.fault.TypeFault.TheVariants as fault
 use Rattle.sc_types.specs.Checks.{Check, check, first_fault}
 use Rattle.sc_types.specs.FirstParts.{has_name}
-use Rattle.sc_types.specs.Positions.{first_at, is_position}
+use Rattle.sc_types.specs.Positions.{first_at}
 use Rattle.sc_types.specs.Sources.{part_checks, parts_checks, is_new_part, name_of, is_main}
 use Rattle.sc_types.specs.Statements.{part_name}
 use Rattle.sc_types.specs.Typing.{IsWellTyped, main_at, HasMain, HaveDistinctNames}

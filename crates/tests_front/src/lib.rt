@@ -1,11 +1,5 @@
-//! Tests of the parser, classical functions, types and values.
+//! Tests of values.
 #![tactic(auto)]
 
 #[cfg(test)]
-mod parse;
-#[cfg(test)]
-mod tree;
-#[cfg(test)]
 mod value;
-#[cfg(test)]
-mod word;
