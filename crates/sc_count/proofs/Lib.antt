@@ -1,0 +1,2 @@
+pub mod CalleeCounts
+pub mod EventCounts
