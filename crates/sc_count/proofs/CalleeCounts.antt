@@ -1,5 +1,5 @@
 -- The counts that are made from those of callees are those of the unfoldings.
-use Rattle.std.proofs.Common.{◌≡◌, ℕ, zero, suc, ◌+◌, ◌*◌, ◌≤◌, max, List, [], ◌∷◌, ◌++◌, map, length, slice_get, Some, Unit, ⊥, refl, sym, ap, ◌∙◌, subst, arith, append-nil, append_assoc}
+use Rattle.std.proofs.Common.{◌≡◌, ℕ, zero, suc, ◌+◌, ◌*◌, ◌≤◌, max, List, [], ◌∷◌, ◌++◌, map, length, slice_get, Some, refl, sym, ap, ◌∙◌, subst, arith, append-nil, append_assoc}
 use Rattle.std.specs.Prelude.{fold}
 use Rattle.std.specs.Option.{option_map_or}
 use Rattle.std.specs.List.{AllByRecursion}
@@ -170,7 +170,7 @@ with-cbits times r xs s n = record {
     no-gates (Return key ∷ xs) = no-gates xs
 
 -- the counts of each of these unfoldings
-AllTally : List ℕ → List Counts → List Unfolding → Type 0
+abbrev AllTally : List ℕ → List Counts → List Unfolding → Type 0
 AllTally times [] [] = Unit {0}
 AllTally times [] (u ∷ us) = ⊥
 AllTally times (c ∷ cs) [] = ⊥
@@ -189,7 +189,7 @@ AllTally-at times (c ∷ cs) [] all i wires next = absurd all
 AllTally-at times (c ∷ cs) (u ∷ us) all zero wires next = all.0 wires next
 AllTally-at times (c ∷ cs) (u ∷ us) all (suc i) wires next = AllTally-at times cs us all.1 i wires next
 
-HasTurns : Item → Type 0
+abbrev HasTurns : Item → Type 0
 HasTurns i = 1 ≤ turns_of i
 
 items-turn : (numbers : Numbers) (items : List Item) → ItemsFit numbers items → AllByRecursion HasTurns items

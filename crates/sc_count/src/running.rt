@@ -12,6 +12,7 @@ use sc_deck::Item;
 use sc_gate::{Gate, Times};
 
 /// What a body counts so far, and its own fresh qubits among them.
+#[derive(Drop)]
 pub(crate) struct Running {
     counts: Counts,
     own: u128,
@@ -88,7 +89,7 @@ impl Running {
         let weight = add_turns(self.counts.weight, part.weight, turns)?;
         let qubits = add_turns(self.counts.qubits, part.qubits, turns)?;
         let cbits = add_turns(self.counts.cbits, part.cbits, turns)?;
-        let kinds = add_kinds(self.counts.kinds, &part.kinds, turns, gates);
+        let kinds = add_kinds(self.counts.kinds, &part.kinds, turns);
         let peak = self.counts.peak.max(self.own + part.peak);
         self.counts = Counts {
             kinds,
@@ -121,8 +122,9 @@ fn add_turns(before: u128, each: u128, turns: u64) -> Option<u128>
     before.checked_add(each.checked_mul(u128::from(turns))?)
 }
 
-/// The numbers with so many turns of others, where no sum passes `limit`.
+/// The numbers with so many turns of others.
 fn add_kinds(mut kinds: [u128; 18], each: &[u128; 18], turns: u64) -> [u128; 18]
+    requires { AllByRecursion (λ k. k < 2 ^ 128) (added kinds (map (λ k. turns * k) each.now)) }
     ensures { result ≡ added kinds (map (λ k. turns * k) each.now) }
 {
     for i in 0..18 {
