@@ -189,10 +189,11 @@ AllTally-at times (c ∷ cs) [] all i wires next = absurd all
 AllTally-at times (c ∷ cs) (u ∷ us) all zero wires next = all.0 wires next
 AllTally-at times (c ∷ cs) (u ∷ us) all (suc i) wires next = AllTally-at times cs us all.1 i wires next
 
-abbrev HasTurns : Item → Type 0
+abbrev pub HasTurns : Item → Type 0
 HasTurns i = 1 ≤ turns_of i
 
-items-turn : (numbers : Numbers) (items : List Item) → ItemsFit numbers items → AllByRecursion HasTurns items
+-- items that fit have turns
+pub items-turn : (numbers : Numbers) (items : List Item) → ItemsFit numbers items → AllByRecursion HasTurns items
 items-turn numbers [] fit = tt
 items-turn numbers (item.Fresh class n ∷ items) fit = let h : 1 ≤ 1 = omega arith in (h, items-turn (after_item numbers (item.Fresh class n)) items fit.1)
 items-turn numbers (item.Gate gate ∷ items) fit = let h : 1 ≤ 1 = omega arith in (h, items-turn numbers items fit.1)
@@ -286,6 +287,7 @@ counts-at times modules deck i m at =
     let all = with-modules times [] [] tt modules (recursion_from_All (λ (n : Module). IsBody (body_of n)) modules deck.bodies) in
     let t = AllTally-at times (counts_of times modules) (unfoldings modules) all i wires (params_of m.key) in
     let e : expansion modules i ≡ unfold_on modules i wires (params_of m.key) = λ k. option_map_or (λ (n : Module). unfold_on modules i (numbered (param_classes n.key) no_wires) (params_of n.key)) (at k) [] in
+    let none_live : greatest (lives [] (unfold_on modules i wires (params_of m.key))) ≡ (counts_at (counts_of times modules) i).peak = let p = t.peak [] in omega arith in
     let same : counts_at (counts_of times modules) i ≡ counts_in times (unfold_on modules i wires (params_of m.key)) =
-    λ k. record { kinds = sym t.kinds k; gates = sym t.gates k; weight = sym t.weight k; qubits = sym t.qubits k; cbits = sym t.cbits k; peak = sym (t.peak []) k } in
+    λ k. record { kinds = sym t.kinds k; gates = sym t.gates k; weight = sym t.weight k; qubits = sym t.qubits k; cbits = sym t.cbits k; peak = sym none_live k } in
     same ∙ ap (counts_in times) (sym e)

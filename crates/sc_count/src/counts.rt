@@ -1,6 +1,4 @@
 //! The numbers that are counted.
-ghost use Rattle.sc_count.specs.Callees.{no_counts};
-ghost use Rattle.std.specs.Prelude.{◌≡◌};
 
 /// What an instance counts with all its calls written out. Its parameters are not among the qubits and classical bits.
 #[derive(Clone, Copy, Debug, PartialEq, Eq)]
@@ -17,20 +15,4 @@ pub struct Counts {
     pub cbits: u128,
     /// The greatest number of live qubits, where a call's own qubits die at its return.
     pub peak: u128,
-}
-
-impl Counts {
-    /// Counts of nothing.
-    pub(crate) fn none() -> Counts
-        ensures { result ≡ no_counts }
-    {
-        Counts {
-            kinds: [0; 18],
-            gates: 0,
-            weight: 0,
-            qubits: 0,
-            cbits: 0,
-            peak: 0,
-        }
-    }
 }

@@ -3,8 +3,8 @@ ghost use Rattle.std.specs.Prelude.{◌≡◌, ◌≤◌, ◌<◌, ◌+◌, ◌*
 ghost use Rattle.std.specs.List.{AllByRecursion};
 ghost use Rattle.sc_deck.specs.Items.{callees_of};
 ghost use Rattle.sc_deck.specs.Turns.{turns_of};
-ghost use Rattle.sc_count.specs.Callees.{added, gate_counts, turned, with_fresh, with_part, with_item, nothing_yet, counts_over_items};
-ghost use Rattle.sc_count.specs.Limits.{IsTooLarge, IsSound, IsSoundSoFar};
+ghost use Rattle.sc_count.specs.Callees.{added, no_counts, gate_counts, turned, with_fresh, with_part, with_item, nothing_yet, counts_over_items};
+ghost use Rattle.sc_count.specs.Limits.{IsTooLarge, IsWithin, IsSound, IsSoundSoFar};
 
 use crate::Counts;
 use sc_base::Class;
@@ -25,15 +25,17 @@ pub(crate) fn count_items(times: &Times, callees: &[Counts], items: &[Item]) -> 
     requires sound { AllByRecursion IsSound callees.now }
     ensures some { IfSome result (λ counts. counts ≡ counts_over_items times.now callees.now items.now) }
     ensures sound { IfSome result IsSound }
+    ensures fits { IfSome result IsWithin }
     ensures none { IfNone result (IsTooLarge (counts_over_items times.now callees.now items.now)) }
 {
     let mut running = Running {
-        counts: Counts::none(),
+        counts: no_counts(),
         own: 0,
     };
     for item in items {
         running.add_item(times, callees, item)?;
     }
+    have_range(&running.counts);
     Some(running.counts)
 }
 
@@ -44,7 +46,6 @@ impl Running {
         requires callees_sound { AllByRecursion IsSound callees.now }
         requires sound { IsSoundSoFar self.old }
         ensures some { OnSome result (self.new ≡ with_item times.now callees.now self.old item.now) }
-        ensures sound { OnSome result (IsSoundSoFar self.new) }
         ensures none { IfNone result (IsTooLarge (with_item times.now callees.now self.old item.now).counts) }
     {
         match item {
@@ -60,7 +61,6 @@ impl Running {
     fn add_fresh(&mut self, class: Class, n: u32) -> Option<()>
         requires sound { IsSoundSoFar self.old }
         ensures some { OnSome result (self.new ≡ with_fresh class n self.old) }
-        ensures sound { OnSome result (IsSoundSoFar self.new) }
         ensures none { IfNone result (IsTooLarge (with_fresh class n self.old).counts) }
     {
         match class {
@@ -82,14 +82,13 @@ impl Running {
         requires part_sound { IsSound part.now }
         requires sound { IsSoundSoFar self.old }
         ensures some { OnSome result (self.new ≡ with_part self.old (turned turns part.now)) }
-        ensures sound { OnSome result (IsSoundSoFar self.new) }
         ensures none { IfNone result (IsTooLarge (with_part self.old (turned turns part.now)).counts) }
     {
         let gates = add_turns(self.counts.gates, part.gates, turns)?;
         let weight = add_turns(self.counts.weight, part.weight, turns)?;
         let qubits = add_turns(self.counts.qubits, part.qubits, turns)?;
         let cbits = add_turns(self.counts.cbits, part.cbits, turns)?;
-        let kinds = add_kinds(self.counts.kinds, &part.kinds, turns);
+        let kinds = add_kinds(&self.counts.kinds, &part.kinds, turns);
         let peak = self.counts.peak.max(self.own + part.peak);
         self.counts = Counts {
             kinds,
@@ -103,12 +102,32 @@ impl Running {
     }
 }
 
+fn no_counts() -> Counts
+    ensures { result ≡ no_counts }
+{
+    Counts {
+        kinds: [0; 18],
+        gates: 0,
+        weight: 0,
+        qubits: 0,
+        cbits: 0,
+        peak: 0,
+    }
+}
+
+/// Numbers of 128 bits are below 2^128.
+fn have_range(counts: &Counts)
+    ensures { IsWithin counts.now }
+{
+    let _ = (counts.gates, counts.weight, counts.qubits, counts.cbits);
+}
+
 /// The counts of one gate.
 fn count_gate(times: &Times, gate: &Gate) -> Counts
     ensures counts { result ≡ gate_counts times.now gate.now }
     ensures sound { IsSound result }
 {
-    let mut counts = Counts::none();
+    let mut counts = no_counts();
     counts.kinds[gate.kind.name().place()] = 1;
     counts.gates = 1;
     counts.weight = u128::from(times.of(&gate.kind));
@@ -119,16 +138,17 @@ fn count_gate(times: &Times, gate: &Gate) -> Counts
 fn add_turns(before: u128, each: u128, turns: u64) -> Option<u128>
     ensures { SomeIff result (before + turns * each < 2 ^ 128) (before + turns * each) }
 {
-    before.checked_add(each.checked_mul(u128::from(turns))?)
+    before.checked_add(u128::from(turns).checked_mul(each)?)
 }
 
-/// The numbers with so many turns of others.
-fn add_kinds(mut kinds: [u128; 18], each: &[u128; 18], turns: u64) -> [u128; 18]
-    requires { AllByRecursion (λ k. k < 2 ^ 128) (added kinds (map (λ k. turns * k) each.now)) }
-    ensures { result ≡ added kinds (map (λ k. turns * k) each.now) }
+/// Numbers, each with so many turns of the one beside it.
+fn add_kinds(kinds: &[u128; 18], each: &[u128; 18], turns: u64) -> [u128; 18]
+    requires { AllByRecursion (λ k. k < 2 ^ 128) (added kinds.now (map (λ k. turns * k) each.now)) }
+    ensures { result ≡ added kinds.now (map (λ k. turns * k) each.now) }
 {
+    let mut sums = [0; 18];
     for i in 0..18 {
-        kinds[i] += each[i] * u128::from(turns);
+        sums[i] = kinds[i] + u128::from(turns) * each[i];
     }
-    kinds
+    sums
 }

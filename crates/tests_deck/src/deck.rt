@@ -83,7 +83,7 @@ fn key_of_main(alloc: Global) -> Result<Key, Memory>
 }
 
 /// The example, built body by body.
-fn deck_of_g(alloc: Global) -> Result<Deck, Memory>
+pub(crate) fn deck_of_g(alloc: Global) -> Result<Deck, Memory>
     ensures { IfOk result (λ d. d ≡ g_repeated) }
 {
     let mut deck = Deck::new(alloc);
