@@ -26,9 +26,9 @@ use Rattle.sc_count.proofs.CalleeCounts.{counts-at}
 use Rattle.sc_count.proofs.TallyLaws.{counts-read, over-at, length-counts_of, stands-made}
 
 -- a tally in the middle of a deck has the counts of the modules before i
-pub record Behind (times : List ℕ) (modules : List Module) (i : ℕ) (tally : Tally) : Type 0 where
-  pub times : tally.times ≡ times
-  pub counts : tally.counts ≡ take i (counts_of times modules)
+pub record Behind (durations : List ℕ) (modules : List Module) (i : ℕ) (tally : Tally) : Type 0 where
+  pub times : tally.times ≡ durations
+  pub counts : tally.counts ≡ take i (counts_of durations modules)
   pub sound : AreSound tally.counts
   pub within : AllByRecursion IsWithin tally.counts
 

@@ -115,11 +115,20 @@ fn no_counts() -> Counts
     }
 }
 
-/// Numbers of 128 bits are below 2^128.
+/// Tells that the numbers of counts are in range.
 fn have_range(counts: &Counts)
     ensures { IsWithin counts.now }
 {
-    let _ = (counts.gates, counts.weight, counts.qubits, counts.cbits);
+    has_range(counts.gates);
+    has_range(counts.weight);
+    has_range(counts.qubits);
+    has_range(counts.cbits);
+}
+
+fn has_range(n: u128)
+    ensures { n < 2 ^ 128 }
+{
+    let _ = n;
 }
 
 /// The counts of one gate.
