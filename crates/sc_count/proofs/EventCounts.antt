@@ -1,15 +1,15 @@
 -- The counts of lists of events one after another.
-use Rattle.std.proofs.Common.{◌≡◌, ℕ, zero, suc, ◌+◌, ◌*◌, ◌≤◌, max, List, [], ◌∷◌, ◌++◌, map, length, refl, sym, ap, ◌∙◌, subst, arith, append-nil, length-append, cond}
+use Rattle.std.proofs.Common.{◌≡◌, ℕ, ◌+◌, ◌≤◌, max, List, [], ◌∷◌, ◌++◌, map, length, refl, ap, ◌∙◌, arith, length-append, cond}
 use Rattle.std.proofs.lemmas.List.{map-append}
 use Rattle.std.proofs.lemmas.List.Sums.{sum_by-append}
 use Rattle.sc_base.specs.declared.names.Class.TheVariants.{Q, C}
 use Rattle.sc_base.specs.declared.names.GateName.{GateName}
 use Rattle.sc_base.specs.GateNames.{all_names}
 use Rattle.sc_gate.specs.declared.gate.Gate.{Gate}
-use Rattle.sc_gate.specs.Chains.{Timed, timed, total_weight}
+use Rattle.sc_gate.specs.Chains.{timed, total_weight}
 use Rattle.sc_gate.specs.Numbers.{Numbers, no_wires}
 use Rattle.sc_gate.proofs.ChainLaws.{total_weight-append}
-use Rattle.sc_deck.specs.Events.{Event, gates_in, after_events, fresh_in}
+use Rattle.sc_deck.specs.Events.{Event, gates_in, fresh_in}
 use Rattle.sc_deck.specs.Modules.{greatest}
 use Rattle.sc_deck.proofs.SequenceLaws.{gates_in-append, after_events-append, after_events-adds}
 use Rattle.sc_count.specs.Callees.{added}

@@ -1,5 +1,5 @@
 -- All counts that are made from callees are sound: no kind passes the gates, and no more qubits are live than are made.
-use Rattle.std.proofs.Common.{◌≡◌, ℕ, zero, suc, ◌+◌, ◌*◌, ◌<◌, ◌≤◌, Bool, true, false, List, [], ◌∷◌, ◌++◌, map, length, get_or, cond, nat_eq, refl, arith}
+use Rattle.std.proofs.Common.{ℕ, zero, suc, ◌+◌, ◌*◌, ◌<◌, ◌≤◌, Bool, true, false, List, [], ◌∷◌, ◌++◌, map, cond, nat_eq, arith}
 use Rattle.std.specs.Prelude.{fold}
 use Rattle.std.specs.List.{AllByRecursion}
 use Rattle.sc_base.specs.declared.names.Class.{Class}
@@ -13,7 +13,7 @@ use Rattle.sc_deck.specs.declared.item.Item.TheVariants as item
 use Rattle.sc_deck.specs.Modules.{Module, from_earlier}
 use Rattle.sc_count.specs.declared.counts.Counts.{Counts}
 use Rattle.sc_count.specs.declared.running.Running.{Running}
-use Rattle.sc_count.specs.Callees.{added, no_counts, gate_counts, turned, with_fresh, with_part, with_item, nothing_yet, counts_at, counts_over, counts_of}
+use Rattle.sc_count.specs.Callees.{added, no_counts, gate_counts, turned, with_fresh, with_part, with_item, nothing_yet, counts_at, counts_over}
 use Rattle.sc_count.specs.Limits.{IsSound, AreSound, IsSoundSoFar}
 use Rattle.sc_count.proofs.CalleeCounts.{HasTurns}
 

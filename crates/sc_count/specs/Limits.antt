@@ -1,5 +1,5 @@
 -- Which counts are too large, and what is true of all counts.
-use Rattle.std.specs.Prelude.{ℕ, ◌<◌, ◌≤◌, ◌^◌, ◌⊎◌, List}
+use Rattle.std.specs.Prelude.{◌<◌, ◌≤◌, ◌^◌, ◌⊎◌, List}
 use Rattle.std.specs.List.{AllByRecursion}
 use Rattle.sc_count.specs.declared.counts.Counts.{Counts}
 use Rattle.sc_count.specs.declared.running.Running.{Running}

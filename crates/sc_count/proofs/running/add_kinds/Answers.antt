@@ -1,4 +1,4 @@
-use Rattle.std.proofs.Common.{◌≡◌, ◌+◌, ◌*◌, ◌<◌, ◌^◌, ◌∙◌, sym, get_or, arith}
+use Rattle.std.proofs.Common.{◌+◌, ◌*◌, ◌<◌, ◌^◌, ◌∙◌, sym, get_or, arith}
 use Rattle.sc_count.proofs.KindNumbers.{turns-all, turns-below}
 use Rattle.sc_count.proofs.running.add_kinds.Goals as goal
 

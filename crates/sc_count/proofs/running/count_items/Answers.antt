@@ -1,4 +1,4 @@
-use Rattle.std.proofs.Common.{◌<◌, length, sym, subst, arith}
+use Rattle.std.proofs.Common.{◌<◌, length, sym, subst}
 use Rattle.sc_count.specs.Limits.{IsSoundSoFar}
 use Rattle.sc_count.proofs.CalleeCounts.{HasTurns}
 use Rattle.sc_count.proofs.CallerCounts.{refused-there}

@@ -1,10 +1,7 @@
-use Rattle.std.proofs.Common.{◌≡◌, ◌+◌, ◌<◌, ◌≤◌, length, Err, ap, sym, subst, rules, arith, ◌∙◌}
+use Rattle.std.proofs.Common.{◌≡◌, ◌+◌, length, Err, ap, sym, subst, rules, arith, ◌∙◌}
 use Rattle.std.specs.Option.{option_copied}
 use Rattle.std.proofs.lemmas.Grind.{common_steps}
-use Rattle.sc_deck.specs.Modules.{Module}
-use Rattle.sc_count.specs.declared.tally.Tally.{Tally}
 use Rattle.sc_count.specs.declared.tally.TallyFault.TheVariants.{CountTooLarge}
-use Rattle.sc_count.specs.Callees.{counts_of}
 use Rattle.sc_count.proofs.DeckTallies.{Behind, starts, none-past, callees-added, goes_on, refused-deck, all-made, all-stand, last-within}
 use Rattle.sc_count.proofs.tally.tally_deck.Goals as goal
 use Rattle.sc_count.proofs.tally.tally_deck.Goals.{in-Some+in_ok-add, in_default}
