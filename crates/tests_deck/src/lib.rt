@@ -4,6 +4,8 @@
 #[cfg(test)]
 mod check;
 #[cfg(test)]
+mod counts;
+#[cfg(test)]
 mod deck;
 #[cfg(test)]
 mod gates;

@@ -1,0 +1,4 @@
+pub mod Callees
+pub mod Counting
+pub mod Limits
+pub mod Tallies
