@@ -5,7 +5,8 @@ use sc_read::{FlatFault, FlatText, read_flat};
 use std::alloc::Global;
 use std::test::Fail;
 
-const EXAMPLE: &[u8] = b"flat 1\nqbits 3\ncbits 1\ngates 7\nPrepZ q0,1\nRz q0,-0.500000000000\n# a line\nCNOT q0,q1\n#\nToffoli q0,q1,q2\nFredkin q2,q1,q0\nMeasX q0\nMeasZ q1,c0\n# the end\n";
+const EXAMPLE: &[u8] =
+    b"flat 1\nqbits 3\ncbits 1\ngates 7\nPrepZ q0,1\nRz q0,-0.500000000000\n# a line\nCNOT q0,q1\n#\nToffoli q0,q1,q2\nFredkin q2,q1,q0\nMeasX q0\nMeasZ q1,c0\n# the end\n";
 
 fn read(alloc: Global, text: &[u8]) -> Result<FlatText, FlatFault> {
     if text.len() > 1000 {
@@ -31,7 +32,8 @@ fn flat_text_in_and_out(rt: HostRuntime) -> Result<(), Fail> {
     }
     let mut sink = MemSink::new(rt.alloc(), 64, 400)?;
     write_flat(flat.qubits as u128, flat.cbits as u128, gates, &mut sink)?;
-    let plain = b"flat 1\nqbits 3\ncbits 1\ngates 7\nPrepZ q0,1\nRz q0,-0.500000000000\nCNOT q0,q1\nToffoli q0,q1,q2\nFredkin q2,q1,q0\nMeasX q0\nMeasZ q1,c0\n".as_slice();
+    let plain =
+        b"flat 1\nqbits 3\ncbits 1\ngates 7\nPrepZ q0,1\nRz q0,-0.500000000000\nCNOT q0,q1\nToffoli q0,q1,q2\nFredkin q2,q1,q0\nMeasX q0\nMeasZ q1,c0\n".as_slice();
     assert_eq!(rt; sink.written(), plain);
     let again = read(rt.alloc(), plain)?;
     assert_eq!(rt; again.gates.as_slice(), gates);
@@ -73,14 +75,38 @@ fn bad_lines_at_the_front(rt: HostRuntime) {
 #[test]
 fn limit_on_gates(rt: HostRuntime) {
     for (text, answer) in [
-        ("flat 1\nqbits 4294967295\ncbits 4294967295\ngates 0\n", None),
-        ("flat 1\nqbits 1\ncbits 0\ngates 4194304\n", Some(FlatFault::BadQasm(5))),
-        ("flat 1\nqbits 1\ncbits 0\ngates 4194305\n", Some(FlatFault::SchedTooLarge)),
-        ("flat 1\nqbits 1\ncbits 0\ngates 123456789012345678901234567890123456789012345678901234567890123456789\n", Some(FlatFault::SchedTooLarge)),
-        ("flat 1\nqbits 1\ncbits 0\ngates 4194305", Some(FlatFault::BadQasm(4))),
-        ("flat 1\nqbits 1\ncbits 0\ngates 04194305\n", Some(FlatFault::BadQasm(4))),
-        ("flat 1\nqbits 1\ncbits x\ngates 4194305\n", Some(FlatFault::BadQasm(3))),
-        ("flat 1\nqbits 1\ncbits 0\ngates 0\nX q0\n", Some(FlatFault::BadQasm(5))),
+        (
+            "flat 1\nqbits 4294967295\ncbits 4294967295\ngates 0\n",
+            None,
+        ),
+        (
+            "flat 1\nqbits 1\ncbits 0\ngates 4194304\n",
+            Some(FlatFault::BadQasm(5)),
+        ),
+        (
+            "flat 1\nqbits 1\ncbits 0\ngates 4194305\n",
+            Some(FlatFault::SchedTooLarge),
+        ),
+        (
+            "flat 1\nqbits 1\ncbits 0\ngates 123456789012345678901234567890123456789012345678901234567890123456789\n",
+            Some(FlatFault::SchedTooLarge),
+        ),
+        (
+            "flat 1\nqbits 1\ncbits 0\ngates 4194305",
+            Some(FlatFault::BadQasm(4)),
+        ),
+        (
+            "flat 1\nqbits 1\ncbits 0\ngates 04194305\n",
+            Some(FlatFault::BadQasm(4)),
+        ),
+        (
+            "flat 1\nqbits 1\ncbits x\ngates 4194305\n",
+            Some(FlatFault::BadQasm(3)),
+        ),
+        (
+            "flat 1\nqbits 1\ncbits 0\ngates 0\nX q0\n",
+            Some(FlatFault::BadQasm(5)),
+        ),
     ] {
         assert_eq!(rt; fault(rt.alloc(), text.as_bytes()), answer);
     }
