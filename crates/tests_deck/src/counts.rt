@@ -4,11 +4,10 @@ ghost use Rattle.sc_deck.specs.Items.{callees_of};
 ghost use Rattle.sc_count.specs.Limits.{AreSound};
 
 use crate::deck::deck_of_g;
-use crate::gates::{cnot, qubit, single};
 use sc_base::{Class, GateName, Memory};
 use sc_count::{Tally, TallyFault, tally_deck};
 use sc_deck::Body;
-use sc_gate::{Kind, Times};
+use sc_gate::{Gate, Kind, Times, Wire};
 use std::alloc::Global;
 use std::test::Fail;
 
@@ -41,7 +40,7 @@ fn body_with_a_qubit(alloc: Global) -> Result<Body, Memory>
 {
     let mut body = Body::new(alloc, 1, 0);
     body.push_fresh(Class::Q, 1)?;
-    body.push_gate(cnot(1, 0))?;
+    body.push_gate(Gate::two(Kind::Cnot, Wire::qubit(1), Wire::qubit(0)))?;
     Ok(body)
 }
 
@@ -53,7 +52,7 @@ fn body_with_calls(alloc: Global, callee: u32, turns: u64) -> Result<Body, Memor
     let mut body = Body::new(alloc, 0, 0);
     body.push_fresh(Class::Q, 1)?;
     body.push_fresh(Class::C, 1)?;
-    body.push_calls(callee, &[qubit(0)], turns)?;
+    body.push_calls(callee, &[Wire::qubit(0)], turns)?;
     Ok(body)
 }
 
@@ -75,7 +74,7 @@ fn body_of_x(alloc: Global) -> Result<Body, Memory>
     ensures { IfOk result (λ b. callees_of b.items ≡ []) }
 {
     let mut body = Body::new(alloc, 1, 0);
-    body.push_gate(single(Kind::X, 0))?;
+    body.push_gate(Gate::one(Kind::X, Wire::qubit(0)))?;
     Ok(body)
 }
 
@@ -84,7 +83,7 @@ fn doubled(alloc: Global, callee: u32) -> Result<Body, Memory>
     ensures { IfOk result (λ b. callees_of b.items ≡ callee ∷ []) }
 {
     let mut body = Body::new(alloc, 1, 0);
-    body.push_calls(callee, &[qubit(0)], 2)?;
+    body.push_calls(callee, &[Wire::qubit(0)], 2)?;
     Ok(body)
 }
 
