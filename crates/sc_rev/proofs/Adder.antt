@@ -1,12 +1,10 @@
 -- The adder's gates.
-use Rattle.std.proofs.Common.{◌≡◌, ℕ, zero, suc, ◌+◌, ◌-◌, ◌*◌, ◌^◌, ◌<◌, ◌≤◌, ◌≢◌, ◌⊎◌, inl, inr, Bool, true, false, not, ◌&&◌, ◌||◌, List, [], ◌∷◌, ◌++◌, length, map, Option, Some, None, if◌then◌else◌, nat_eq, refl, sym, ap, ◌∙◌, subst, arith, rules}
-use Rattle.std.proofs.lemmas.List.{length-map}
-use Rattle.sc_rev.specs.declared.bit_gate.BitGate.{BitGate}
-use Rattle.sc_rev.specs.declared.bit_gate.BitGate.TheVariants.{X, Cnot, Toffoli}
-use Rattle.sc_gate.specs.Runs.{xor, bit, number}
-use Rattle.sc_rev.specs.Cells.{wires_from, and_gate, carry_in, carry_on, rows, adder}
-use Rattle.sc_rev.proofs.Run.{Wires, choose, flip, target, fires, step, run, flip_at_target, flip_else, run_append, same_or, Every, every_weaker, every_append, map_flip, later_apart}
-use Rattle.sc_rev.proofs.Fill.{flip_flip, flip_both, and_step, fill, fill_flip, fill_keeps, fill_word, xor_is, apart_from}
+use Rattle.std.proofs.Common.{◌≡◌, ℕ, zero, suc, ◌+◌, ◌<◌, ◌≤◌, Bool, true, false, ◌&&◌, List, [], ◌∷◌, ◌++◌, length, map, Option, Some, None, refl, sym, ap, ◌∙◌, arith}
+use Rattle.sc_rev.specs.declared.bit_gate.BitGate.TheVariants.{Cnot}
+use Rattle.sc_gate.specs.Runs.{xor}
+use Rattle.sc_rev.specs.Cells.{and_gate, carry_in, carry_on, rows}
+use Rattle.sc_rev.proofs.Run.{Wires, flip, run, flip_at_target, flip_else, run_append, Every, map_flip}
+use Rattle.sc_rev.proofs.Fill.{flip_flip, flip_both, and_step, fill, fill_flip, xor_is, apart_from}
 
 abbrev pub carry : Bool → Bool → Bool → Bool
 carry b x y = xor (x && y) (b && xor x y)

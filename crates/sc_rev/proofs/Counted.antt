@@ -1,6 +1,6 @@
 -- The circuit of a typed function takes as many scratch wires as are counted for it, and each word has its width.
-use Rattle.std.proofs.Common.{◌≡◌, ℕ, zero, suc, ◌+◌, ◌-◌, ◌*◌, ◌<◌, ◌≤◌, Bool, true, false, List, [], ◌∷◌, ◌++◌, length, map, take, drop, slice_index, refl, sym, ap, ◌∙◌, subst, arith, length-append}
-use Rattle.std.specs.Prelude.{min, sum, sum_by}
+use Rattle.std.proofs.Common.{◌≡◌, ℕ, zero, suc, ◌+◌, ◌-◌, ◌*◌, ◌<◌, Bool, true, false, List, [], ◌∷◌, ◌++◌, length, take, drop, slice_index, refl, ap, ◌∙◌, subst, arith, length-append}
+use Rattle.std.specs.Prelude.{min, sum_by}
 use Rattle.std.proofs.Math.Nat.{add-mul, mul-add}
 use Rattle.std.proofs.lemmas.List.Sums.{sum_by-cons}
 use Rattle.sc_syntax.specs.declared.WordOp.{WordOp}
@@ -13,8 +13,8 @@ use Rattle.sc_word.specs.Scratch.{op_scratch, shift_scratch, scratch_node, scrat
 use Rattle.sc_word.specs.Typed.{OpFits, TypedWords}
 use Rattle.sc_word.specs.Fits.{TypedAs, TypedRow, TypedAll, IsTypedFn}
 use Rattle.sc_rev.specs.Cells.{wires_from}
-use Rattle.sc_rev.specs.Circuits.{Circuit, joined, then_piece, mul_rest, mul_piece, part_piece, add_piece, not_piece, left_piece, right_piece, ext_piece, low_piece, pick_piece}
-use Rattle.sc_rev.specs.Functions.{op_piece, linked, shift_piece, shifted, then_pick, word_at, circuit_node, circuit_row, circuit, circuit_all, words_from, operands_of, compute}
+use Rattle.sc_rev.specs.Circuits.{Circuit, joined, then_piece, mul_rest, mul_piece, part_piece, add_piece}
+use Rattle.sc_rev.specs.Functions.{op_piece, linked, shift_piece, shifted, word_at, circuit_node, circuit_row, circuit, circuit_all, words_from, operands_of, compute}
 use Rattle.sc_rev.proofs.Makes.{fresh_length}
 use Rattle.sc_rev.proofs.Shifts.{take_length, drop_length}
 

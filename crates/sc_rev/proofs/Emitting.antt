@@ -1,9 +1,9 @@
 -- The steps of the loops that emit gates.
-use Rattle.std.proofs.Common.{◌≡◌, ℕ, zero, suc, ◌+◌, ◌-◌, ◌/◌, ◌<◌, ◌≤◌, List, [], ◌∷◌, ◌++◌, length, length-append, drop, take, reverse, get_or, ◌⊎◌, inl, inr, Option, Some, None, append_assoc, add-one, drop-cons, map, refl, sym, ap, ◌∙◌, subst, arith, rules}
+use Rattle.std.proofs.Common.{◌≡◌, ℕ, zero, suc, ◌+◌, ◌-◌, ◌/◌, ◌<◌, ◌≤◌, List, [], ◌∷◌, ◌++◌, length, length-append, drop, take, reverse, get_or, ◌⊎◌, inl, inr, Option, Some, append_assoc, add-one, drop-cons, map, refl, sym, ap, ◌∙◌, subst, arith}
 use Rattle.std.proofs.lemmas.List.{get_or-take, take-append-le, reverse-append}
 use Rattle.std.proofs.Math.Seq.{take-suc}
 use Rattle.sc_rev.specs.declared.bit_gate.BitGate.{BitGate}
-use Rattle.sc_rev.specs.declared.bit_gate.BitGate.TheVariants.{X, Cnot, Toffoli}
+use Rattle.sc_rev.specs.declared.bit_gate.BitGate.TheVariants.{Cnot, Toffoli}
 use Rattle.sc_rev.specs.declared.sums.Carry.{Carry}
 use Rattle.sc_rev.specs.Cells.{wires_from, each, rows, carry_in, carry_on, and_gate, and_cell}
 use Rattle.sc_rev.specs.Circuits.{chain_rest, literal_gates, pick_gates}

@@ -1,13 +1,12 @@
 -- What an operation's gates do: they flip fresh wires by bits of the operands.
-use Rattle.std.proofs.Common.{◌≡◌, ℕ, zero, suc, ◌+◌, ◌-◌, ◌*◌, ◌^◌, ◌<◌, ◌≤◌, ◌≢◌, ◌⊎◌, inl, inr, Bool, true, false, not, ◌&&◌, ◌||◌, List, [], ◌∷◌, ◌++◌, length, map, Option, Some, None, if◌then◌else◌, nat_eq, refl, sym, ap, ◌∙◌, subst, arith, rules}
+use Rattle.std.proofs.Common.{◌≡◌, ℕ, suc, ◌+◌, ◌<◌, ◌≤◌, ◌≢◌, ◌⊎◌, inl, inr, Bool, true, false, not, ◌&&◌, ◌||◌, List, [], ◌∷◌, length, map, nat_eq, refl, ap, ◌∙◌, arith}
 use mathlib.Core.Path.{fun_ext}
-use Rattle.std.proofs.lemmas.Bool.{eq-eqb, ne_eqb}
 use Rattle.std.proofs.lemmas.Bool.Decides.{eqb_tells}
 use Rattle.sc_rev.specs.declared.bit_gate.BitGate.{BitGate}
-use Rattle.sc_rev.specs.declared.bit_gate.BitGate.TheVariants.{X, Cnot, Toffoli}
-use Rattle.sc_gate.specs.Runs.{xor, bit, number}
-use Rattle.sc_rev.specs.Cells.{wires_from, and_gate, each, not_cell, and_cell, xor_cell, or_cell, same_cell, carry_in, carry_on, rows, adder}
-use Rattle.sc_rev.proofs.Run.{Wires, choose, flip, target, fires, step, run, flip_at_target, flip_else, run_append, same_or, Every, every_weaker, every_append, map_flip, later_apart}
+use Rattle.sc_rev.specs.declared.bit_gate.BitGate.TheVariants.{X, Cnot}
+use Rattle.sc_gate.specs.Runs.{xor}
+use Rattle.sc_rev.specs.Cells.{wires_from, and_gate, each, not_cell, and_cell, xor_cell, or_cell, same_cell}
+use Rattle.sc_rev.proofs.Run.{Wires, choose, flip, step, run, flip_at_target, flip_else, run_append, Every, every_weaker, map_flip}
 
 choose_flips : (c d x a b : Bool) → choose c (xor (choose d (xor x b) x) a) (choose d (xor x b) x) ≡ choose d (xor (choose c (xor x a) x) b) (choose c (xor x a) x)
 choose_flips true true true true true = refl

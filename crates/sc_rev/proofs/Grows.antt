@@ -14,13 +14,12 @@ use Rattle.sc_word.specs.declared.tree.TypedLink.{TypedLink}
 use Rattle.sc_word.specs.declared.tree.TypedNode.{TypedNode, Chain, Shift, Pick}
 use Rattle.sc_word.specs.Pure.{PureTyped, PureTypedLinks, PureTypedExpr, pure_typed, pure_typed_expr, pure_typed_links}
 use Rattle.sc_word.specs.Forms.{amount}
-use Rattle.sc_word.specs.Typed.{TypedWords}
 use Rattle.sc_word.proofs.TypedRows.{pure_typed_chain}
 use Rattle.sc_rev.specs.declared.bit_gate.BitGate.{BitGate}
 use Rattle.sc_rev.specs.declared.draft.Draft.{Draft}
 use Rattle.sc_rev.specs.Cells.{wires_from, not_cell, same_cell}
 use Rattle.sc_rev.specs.Circuits.{Circuit, joined, then_piece, part_piece, add_piece, mul_rest, mul_piece, each_piece, not_piece, adder_piece, sub_piece, last_wire, less_piece, all_piece, equal_piece, left_piece, right_piece}
-use Rattle.sc_rev.specs.Functions.{op_piece, linked, shift_piece, shifted, word_at, circuit_node, circuit_row, circuit, circuit_all, words_from, operands_of, compute}
+use Rattle.sc_rev.specs.Functions.{op_piece, linked, shift_piece, shifted, word_at, circuit_node, circuit_row, circuit, circuit_all, words_from}
 use Rattle.sc_rev.specs.Emitting.{Draws, wires_of, only_word, after_gates, InChain, InShifts, InProduct, InAll}
 
 -- ---- the next fresh wire only grows

@@ -1,15 +1,14 @@
 -- A circuit makes a word from zero scratch.
-use Rattle.std.proofs.Common.{◌≡◌, ℕ, zero, suc, ◌+◌, ◌-◌, ◌*◌, ◌/◌, ◌%◌, ◌^◌, ◌<◌, ◌≤◌, ◌≢◌, ◌⊎◌, inl, inr, Bool, true, false, not, ◌&&◌, ◌||◌, nat_eq, nat_lt, List, [], ◌∷◌, ◌++◌, length, map, take, drop, Option, Some, None, if◌then◌else◌, bit_and, bit_or, bit_xor, refl, sym, ap, ◌∙◌, subst, arith, rules}
+use Rattle.std.proofs.Common.{◌≡◌, ℕ, zero, suc, ◌+◌, ◌-◌, ◌^◌, ◌<◌, ◌≤◌, ◌≢◌, ◌⊎◌, inl, inr, Bool, true, false, not, ◌&&◌, ◌||◌, nat_eq, List, [], ◌∷◌, length, map, bit_and, bit_or, bit_xor, refl, sym, ap, ◌∙◌, subst, arith}
 use Rattle.std.proofs.lemmas.Bool.Decides.{eqb_tells}
 use Rattle.sc_rev.specs.declared.bit_gate.BitGate.{BitGate}
 use Rattle.sc_rev.specs.declared.bit_gate.BitGate.TheVariants.{X, Cnot, Toffoli}
-use Rattle.sc_gate.specs.Runs.{xor, bit, number}
-use Rattle.sc_rev.specs.Cells.{wires_from, and_gate, each, not_cell, and_cell, xor_cell, or_cell, same_cell, carry_in, carry_on, rows, adder}
-use Rattle.sc_rev.specs.Circuits.{Circuit, joined, each_piece, not_piece, adder_piece, add_piece, sub_piece, last_wire, less_piece}
-use Rattle.sc_rev.proofs.Run.{Wires, flip, target, fires, step, run, run_append, Every, every_weaker, every_append, map_keeps, Held, EachControl, Control, Placed, run_keeps}
-use Rattle.sc_rev.proofs.Fill.{fill, fill_keeps, fill_word, IsCell, pairs, each_fills, not_is, and_is, xor_is, or_is, same_is}
-use Rattle.sc_rev.proofs.Adder.{carry, sums, carries, After, rows_fill}
-use Rattle.sc_rev.proofs.Number.{number_lt, number_not, sums_mod, sums_number, sums_length, top, weight, fill_top, number_and, number_xor, number_or}
+use Rattle.sc_gate.specs.Runs.{xor, number}
+use Rattle.sc_rev.specs.Cells.{wires_from, and_gate, each, not_cell, and_cell, xor_cell, or_cell, same_cell}
+use Rattle.sc_rev.specs.Circuits.{Circuit, joined, each_piece, not_piece}
+use Rattle.sc_rev.proofs.Run.{Wires, target, run, run_append, Every, every_weaker, every_append, map_keeps, Held, EachControl, Control, Placed, run_keeps}
+use Rattle.sc_rev.proofs.Fill.{fill, fill_word, IsCell, pairs, each_fills, not_is, and_is, xor_is, or_is}
+use Rattle.sc_rev.proofs.Number.{number_not, number_and, number_xor, number_or}
 
 pub bits_length : (s : Wires) (ws : List ℕ) → length (map s ws) ≡ length ws
 bits_length s [] = refl

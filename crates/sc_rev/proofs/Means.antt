@@ -1,21 +1,21 @@
 -- Each expression's circuit makes its value.
-use Rattle.std.proofs.Common.{◌≡◌, ℕ, zero, suc, ◌+◌, ◌-◌, ◌*◌, ◌/◌, ◌%◌, ◌^◌, ◌<◌, ◌≤◌, ◌≢◌, ◌⊎◌, inl, inr, Bool, true, false, nat_eq, nat_lt, List, [], ◌∷◌, ◌++◌, length, map, bit_and, bit_or, bit_xor, slice_index, refl, sym, ap, ◌∙◌, subst, arith, rules}
+use Rattle.std.proofs.Common.{◌≡◌, ℕ, zero, suc, ◌-◌, ◌%◌, ◌^◌, ◌<◌, ◌≤◌, Bool, true, false, nat_eq, nat_lt, List, [], ◌∷◌, length, map, slice_index, refl, ap, ◌∙◌, subst, arith}
 use Rattle.sc_syntax.specs.declared.WordOp.{WordOp}
 use Rattle.sc_syntax.specs.declared.WordOp.TheVariants as op
 use Rattle.sc_syntax.specs.declared.Width.{Width}
 use Rattle.sc_syntax.specs.declared.ShiftLink.{ShiftLink}
 use Rattle.sc_gate.specs.Runs.{bit, number}
-use Rattle.sc_word.specs.Pure.{PureTyped, PureTypedLinks, PureTypedExpr}
+use Rattle.sc_word.specs.Pure.{PureTyped, PureTypedLinks}
 use Rattle.sc_word.specs.Forms.{amount, op_width}
 use Rattle.sc_word.specs.Typed.{OpFits}
 use Rattle.sc_word.specs.Fits.{TypedAs, TypedRow}
-use Rattle.sc_word.specs.Value.{truth, op_value, shift_value, shifts_value, picked, value_node, value_row, value}
+use Rattle.sc_word.specs.Value.{truth, op_value, shift_value, shifts_value, picked, value_node, value_row}
 use Rattle.sc_rev.specs.declared.bit_gate.BitGate.{BitGate}
-use Rattle.sc_rev.specs.Circuits.{Circuit, joined, then_piece, each_piece, not_piece, pick_piece, left_piece, right_piece, ext_piece, low_piece}
-use Rattle.sc_rev.specs.Functions.{op_piece, linked, shift_piece, shifted, then_pick, word_at, circuit_node, circuit_row, circuit}
+use Rattle.sc_rev.specs.Circuits.{Circuit, joined, then_piece, not_piece, pick_piece, ext_piece, low_piece}
+use Rattle.sc_rev.specs.Functions.{op_piece, linked, shift_piece, shifted, then_pick, word_at, circuit_node, circuit_row}
 use Rattle.sc_rev.proofs.Run.{Wires, run, Every, Held, Placed}
-use Rattle.sc_rev.proofs.Makes.{bits_length, Zero, Makes, Operands, held_later, word_keeps, zero_after, joined_makes, and_makes, xor_makes, or_makes, not_makes}
-use Rattle.sc_rev.proofs.Words.{same_value, itself, operands_after, word_lt, add_makes, sub_makes, less_makes, binary_makes}
+use Rattle.sc_rev.proofs.Makes.{Zero, Makes, Operands, held_later, word_keeps, zero_after, joined_makes, and_makes, xor_makes, or_makes, not_makes}
+use Rattle.sc_rev.proofs.Words.{same_value, itself, add_makes, sub_makes, less_makes, binary_makes}
 use Rattle.sc_rev.proofs.Pieces.{literal_makes, equal_makes, pick_makes, left_makes, right_makes, ext_makes, low_makes, mul_makes}
 
 abbrev first_wire : List ℕ → ℕ

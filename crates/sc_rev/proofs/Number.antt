@@ -1,9 +1,9 @@
 -- The numbers of bits.
-use Rattle.std.proofs.Common.{◌≡◌, ℕ, zero, suc, ◌+◌, ◌-◌, ◌*◌, ◌/◌, ◌%◌, ◌^◌, ◌<◌, ◌≤◌, ◌≢◌, ◌⊎◌, inl, inr, Bool, true, false, not, ◌&&◌, ◌||◌, List, [], ◌∷◌, ◌++◌, length, map, take, drop, bit_and, bit_or, bit_xor, refl, sym, ap, ◌∙◌, subst, arith, rules}
+use Rattle.std.proofs.Common.{◌≡◌, ℕ, zero, suc, ◌+◌, ◌*◌, ◌%◌, ◌^◌, ◌<◌, ◌≤◌, Bool, true, false, not, ◌&&◌, ◌||◌, List, [], ◌∷◌, length, map, bit_and, bit_or, bit_xor, refl, sym, ap, ◌∙◌, subst, arith}
 use Rattle.std.proofs.Math.Nat.{pow-suc}
-use Rattle.std.proofs.lemmas.Nat.{mod_low, and_block, or_block, xor_block, pow_pos}
+use Rattle.std.proofs.lemmas.Nat.{mod_low, and_block, or_block, xor_block}
 use Rattle.sc_gate.specs.Runs.{xor, bit, number}
-use Rattle.sc_rev.proofs.Fill.{pairs, fill, fill_keeps}
+use Rattle.sc_rev.proofs.Fill.{pairs, fill}
 use Rattle.sc_rev.proofs.Run.{Wires, flip, flip_at_target, flip_else}
 use Rattle.sc_rev.proofs.Adder.{carry, sums, carries}
 

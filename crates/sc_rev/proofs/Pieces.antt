@@ -1,21 +1,19 @@
 -- The other operations.
-use Rattle.std.proofs.Common.{◌≡◌, ℕ, zero, suc, ◌+◌, ◌-◌, ◌*◌, ◌/◌, ◌%◌, ◌^◌, ◌<◌, ◌≤◌, ◌≢◌, ◌⊎◌, inl, inr, Bool, true, false, not, ◌&&◌, ◌||◌, nat_eq, nat_lt, List, [], ◌∷◌, ◌++◌, length, map, take, drop, min, Option, Some, None, if◌then◌else◌, bit_and, bit_or, bit_xor, slice_index, refl, sym, ap, ◌∙◌, subst, arith, rules, length-append}
-use Rattle.std.proofs.lemmas.Nat.{mod_low, shr_split, shr_below, mod_below, pow_pos}
-use Rattle.std.proofs.Math.Nat.{zero-add, add-zero, zero-mul, mul-zero, mul-one, mul_left_comm, add-mul, mul-add, mul_assoc, mul_comm, add-mod}
+use Rattle.std.proofs.Common.{◌≡◌, ℕ, zero, suc, ◌+◌, ◌-◌, ◌*◌, ◌/◌, ◌%◌, ◌^◌, ◌<◌, ◌≤◌, ◌≢◌, ◌⊎◌, inl, inr, Bool, true, false, not, ◌&&◌, nat_eq, List, [], ◌∷◌, ◌++◌, length, map, take, drop, min, if◌then◌else◌, refl, sym, ap, ◌∙◌, arith, length-append}
+use Rattle.std.proofs.Math.Nat.{zero-add, add-zero, zero-mul, mul-zero, mul-one, mul_left_comm, mul-add, mul_assoc, add-mod}
 use Rattle.std.proofs.lemmas.Bool.Decides.{nat_tests, eqb_tells}
 use mathlib.Core.Path.{fun_ext}
 use Rattle.sc_rev.proofs.Shifts.{map_append, map_take, map_drop, every_take, every_drop, take_length, drop_length, number_take, number_drop, number_zeros, number_append, cases_le, zero_mod, shl_small, shl_value, drop_min}
-use Rattle.sc_rev.specs.declared.bit_gate.BitGate.{BitGate}
 use Rattle.sc_rev.specs.declared.bit_gate.BitGate.TheVariants.{X, Cnot, Toffoli}
 use Rattle.sc_gate.specs.Runs.{xor, bit, number}
-use Rattle.sc_rev.specs.Cells.{wires_from, and_gate, each, not_cell, and_cell, xor_cell, or_cell, same_cell, carry_in, carry_on, rows, adder}
-use Rattle.sc_rev.specs.Circuits.{Circuit, joined, each_piece, not_piece, adder_piece, add_piece, sub_piece, last_wire, less_piece, equal_piece, all_piece, chain_rest, chain_gates, literal_gates, literal_piece, pick_gates, pick_piece, left_piece, right_piece, ext_piece, low_piece, part_piece, mul_rest, mul_piece}
+use Rattle.sc_rev.specs.Cells.{wires_from, each, and_cell, same_cell}
+use Rattle.sc_rev.specs.Circuits.{Circuit, joined, each_piece, add_piece, equal_piece, all_piece, chain_rest, literal_gates, literal_piece, pick_gates, pick_piece, left_piece, right_piece, ext_piece, low_piece, part_piece, mul_rest, mul_piece}
 use Rattle.sc_word.specs.Value.{picked}
-use Rattle.sc_rev.proofs.Run.{Wires, choose, flip, target, fires, step, run, flip_else, flip_at_target, run_append, Every, every_weaker, every_append, map_keeps, map_flip, Held, EachControl, Control, Placed, run_keeps, from_before}
-use Rattle.sc_rev.proofs.Fill.{fill, fill_keeps, fill_word, IsCell, pairs, each_fills, not_is, and_is, xor_is, or_is, same_is, flip_both, flip_flip, fill_flip, and_step, apart_from}
-use Rattle.sc_rev.proofs.Number.{number_lt, number_not, twice, bit_lt}
-use Rattle.sc_rev.proofs.Makes.{bits_length, Zero, Makes, Operands, held_below, held_later, fresh_held, fresh_length, word_keeps, zero_after, joined_makes, cnot_placed, and_placed, x_placed, same_lengths, filled_word, not_makes, not_value, each_word, not_places, each_places, pairs_length, each_makes, same_places, and_places}
-use Rattle.sc_rev.proofs.Words.{bit_number, same_value, itself, operands_after, word_lt, add_makes, binary_makes}
+use Rattle.sc_rev.proofs.Run.{Wires, choose, flip, step, run, flip_else, flip_at_target, run_append, Every, every_append, map_keeps, map_flip, Held, Placed, run_keeps, from_before}
+use Rattle.sc_rev.proofs.Fill.{fill, fill_keeps, pairs, each_fills, and_is, xor_is, same_is, flip_both, fill_flip, apart_from}
+use Rattle.sc_rev.proofs.Number.{twice}
+use Rattle.sc_rev.proofs.Makes.{bits_length, Zero, Makes, Operands, held_below, held_later, fresh_held, fresh_length, word_keeps, zero_after, joined_makes, cnot_placed, x_placed, same_lengths, filled_word, each_word, each_places, pairs_length, each_makes, same_places, and_places}
+use Rattle.sc_rev.proofs.Words.{bit_number, same_value, add_makes, binary_makes}
 
 -- Literals.
 abbrev pub literal_bits : ℕ → ℕ → List Bool

@@ -1,5 +1,5 @@
 -- The gates of a function stand on its own qubits, and on other wires they do the same.
-use Rattle.std.proofs.Common.{◌≡◌, ℕ, zero, suc, ◌+◌, ◌-◌, ◌<◌, ◌≤◌, ◌≢◌, ◌⊎◌, inl, inr, Bool, true, false, ◌&&◌, List, [], ◌∷◌, ◌++◌, length, map, take, drop, reverse, bit_xor, refl, sym, ap, ◌∙◌, subst, arith, length-append}
+use Rattle.std.proofs.Common.{◌≡◌, ℕ, zero, suc, ◌+◌, ◌-◌, ◌<◌, ◌≤◌, ◌≢◌, ◌⊎◌, inl, inr, Bool, false, ◌&&◌, List, [], ◌∷◌, ◌++◌, length, map, take, drop, reverse, bit_xor, refl, sym, ap, ◌∙◌, subst, arith, length-append}
 use Rattle.std.specs.Prelude.{sum}
 use Rattle.std.proofs.lemmas.List.Sums.{sum_by-cons}
 use Rattle.std.specs.List.{AllByRecursion}
@@ -21,14 +21,13 @@ use Rattle.sc_rev.specs.declared.bit_gate.BitGate.TheVariants.{X, Cnot, Toffoli}
 use Rattle.sc_rev.specs.Cells.{gate_of, wires_from, copies, whole}
 use Rattle.sc_rev.specs.Circuits.{Circuit}
 use Rattle.sc_rev.specs.Functions.{operands_of, compute, steps_of, gates_of}
-use Rattle.sc_rev.specs.Reversible.{numbers_of, zeros, IsReversible, AreOwnGates, placed, word_in, words_in, IsPlaced, XorsValue}
-use Rattle.sc_rev.proofs.Run.{Wires, flip, target, fires, step, run, Every, every_append, every_weaker, every_reverse, Held, EachControl, Control, Differ, Placed, same_or, flip_else, flip_at_target, map_keeps, from_before}
-use Rattle.sc_rev.proofs.Shifts.{cases_le}
+use Rattle.sc_rev.specs.Reversible.{numbers_of, zeros, AreOwnGates, placed, words_in, IsPlaced, XorsValue}
+use Rattle.sc_rev.proofs.Run.{Wires, target, fires, step, run, Every, every_append, every_weaker, every_reverse, Held, EachControl, Control, Differ, Placed, same_or, flip_else, flip_at_target, map_keeps, from_before}
 use Rattle.sc_rev.proofs.Makes.{bits_length, fresh_length, Makes}
 use Rattle.sc_rev.proofs.Pieces.{wires_split}
 use Rattle.sc_rev.proofs.Shifts.{map_append}
 use Rattle.sc_rev.proofs.Counted.{compute_takes}
-use Rattle.sc_rev.proofs.Top.{flip_length, flip_hit, flip_miss, bits_run, bits_length_run, bit_at_append_l, bit_at_append_r, zeros_length, bit_at_read, middle, tail_false, cases_3, read_part, compute_makes, reversible_holds}
+use Rattle.sc_rev.proofs.Top.{flip_length, flip_hit, flip_miss, bits_run, bits_length_run, bit_at_append_l, zeros_length, bit_at_read, middle, tail_false, cases_3, read_part, compute_makes, reversible_holds}
 
 -- ---- a gate on distinct wires below m
 

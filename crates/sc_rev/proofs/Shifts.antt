@@ -1,13 +1,12 @@
 -- Numbers of parts of a word, and of a word with zeros.
-use Rattle.std.proofs.Common.{◌≡◌, ℕ, zero, suc, ◌+◌, ◌-◌, ◌*◌, ◌/◌, ◌%◌, ◌^◌, ◌<◌, ◌≤◌, ◌≢◌, ◌⊎◌, inl, inr, Bool, true, false, not, ◌&&◌, ◌||◌, nat_eq, nat_lt, List, [], ◌∷◌, ◌++◌, length, map, take, drop, min, if◌then◌else◌, refl, sym, ap, ◌∙◌, subst, arith, rules}
+use Rattle.std.proofs.Common.{◌≡◌, ℕ, zero, suc, ◌+◌, ◌-◌, ◌*◌, ◌/◌, ◌%◌, ◌^◌, ◌<◌, ◌≤◌, ◌⊎◌, inl, inr, Bool, List, [], ◌∷◌, ◌++◌, length, map, take, drop, min, refl, sym, ap, ◌∙◌, arith}
 use Rattle.std.proofs.lemmas.Nat.{mod_low, shr_split, shr-shr, shr_high, pow-add, mod_below, pow_pos, shl_below}
 use Rattle.std.proofs.Math.Nat.{add-mul, mul_assoc, mul_comm}
-use Rattle.std.proofs.lemmas.Bool.Decides.{nat_tests, leb_tells}
-use Rattle.sc_gate.specs.Runs.{xor, bit, number}
+use Rattle.std.proofs.lemmas.Bool.Decides.{leb_tells}
+use Rattle.sc_gate.specs.Runs.{bit, number}
 use Rattle.sc_rev.specs.Cells.{wires_from}
 use Rattle.sc_rev.proofs.Run.{Wires, Every}
-use Rattle.sc_rev.proofs.Fill.{pairs}
-use Rattle.sc_rev.proofs.Number.{number_lt, twice, bit_lt}
+use Rattle.sc_rev.proofs.Number.{twice, bit_lt}
 use Rattle.sc_rev.proofs.Makes.{Zero}
 
 pub map_append : (s : Wires) (xs ys : List ℕ) → map s (xs ++ ys) ≡ map s xs ++ map s ys

@@ -1,27 +1,27 @@
 -- A function's gates xor its value into the output.
-use Rattle.std.proofs.Common.{◌≡◌, ℕ, zero, suc, ◌+◌, ◌-◌, ◌*◌, ◌/◌, ◌%◌, ◌^◌, ◌<◌, ◌≤◌, ◌≢◌, ◌⊎◌, inl, inr, Bool, true, false, ◌&&◌, nat_eq, List, [], ◌∷◌, ◌++◌, length, map, take, drop, reverse, bit_xor, refl, sym, ap, ◌∙◌, subst, arith, rules, append_assoc, length-append}
+use Rattle.std.proofs.Common.{◌≡◌, ℕ, zero, suc, ◌+◌, ◌-◌, ◌<◌, ◌≤◌, ◌≢◌, ◌⊎◌, inl, inr, Bool, true, false, ◌&&◌, List, [], ◌∷◌, ◌++◌, length, map, take, drop, reverse, bit_xor, refl, sym, ap, ◌∙◌, subst, arith, append_assoc, length-append}
 use mathlib.Core.Path.{fun_ext}
 use Rattle.sc_rev.specs.declared.bit_gate.BitGate.{BitGate}
 use Rattle.sc_rev.specs.declared.bit_gate.BitGate.TheVariants.{X, Cnot, Toffoli}
 use Rattle.std.specs.Prelude.{sum}
 use Rattle.std.proofs.lemmas.List.Sums.{sum_by-cons}
 use Rattle.sc_gate.specs.BitRuns.{xors}
-use Rattle.sc_gate.specs.Runs.{xor, bit_at, xor_at, bit_step, bit_run, bit, number}
-use Rattle.sc_word.specs.Pure.{PureTyped, PureTypedLinks, PureTypedExpr}
+use Rattle.sc_gate.specs.Runs.{xor, bit_at, xor_at, bit_step, bit_run, number}
+use Rattle.sc_word.specs.Pure.{PureTypedExpr}
 use Rattle.sc_word.specs.Typed.{TypedWords}
-use Rattle.sc_word.specs.Fits.{TypedAs, TypedAll, IsTypedFn}
+use Rattle.sc_word.specs.Fits.{TypedAll, IsTypedFn}
 use Rattle.sc_word.specs.Value.{value, value_all, fn_value}
 use Rattle.sc_rev.specs.Cells.{gate_of, wires_from, copies, whole}
-use Rattle.sc_rev.specs.Circuits.{Circuit, joined}
-use Rattle.sc_rev.specs.Functions.{circuit, words_from, circuit_all, operands_of, compute, steps_of, gates_of}
+use Rattle.sc_rev.specs.Circuits.{Circuit}
+use Rattle.sc_rev.specs.Functions.{circuit, words_from, circuit_all, operands_of, compute, gates_of}
 use Rattle.sc_word.specs.Scratch.{fn_scratch}
 use Rattle.sc_rev.specs.Reversible.{numbers_of, zeros, IsReversible}
 use Rattle.sc_rev.proofs.Counted.{compute_takes}
-use Rattle.sc_rev.proofs.Run.{Wires, choose, flip, target, fires, step, run, Every, every_append, every_weaker, every_reverse, Held, Placed, run_append, same_or, flip_else, flip_at_target, whole_keeps, whole_word, map_keeps, from_before}
+use Rattle.sc_rev.proofs.Run.{Wires, flip, target, step, run, Every, every_append, every_weaker, every_reverse, Held, Placed, same_or, flip_else, flip_at_target, whole_keeps, whole_word}
 use Rattle.sc_rev.proofs.Number.{number_xor}
 use Rattle.sc_rev.proofs.Fill.{pairs}
 use Rattle.sc_rev.proofs.Shifts.{cases_le}
-use Rattle.sc_rev.proofs.Makes.{bits_length, fresh_length, Zero, Makes, held_later, word_keeps, zero_after, joined_makes, placed_wider}
+use Rattle.sc_rev.proofs.Makes.{bits_length, fresh_length, Zero, Makes, zero_after, joined_makes}
 use Rattle.sc_rev.proofs.Means.{Named, Scope, scope_later, circuit_node_makes}
 
 abbrev apply : BitGate → List Bool → List Bool

@@ -1,5 +1,5 @@
 -- Compute, copy, uncompute as they are made, and the body's items.
-use Rattle.std.proofs.Common.{◌≡◌, ℕ, zero, suc, ◌+◌, ◌-◌, ◌<◌, ◌≤◌, List, [], ◌∷◌, ◌++◌, length, map, take, drop, reverse, get_or, append_assoc, add-one, drop-cons, refl, sym, ap, ◌∙◌, subst, arith}
+use Rattle.std.proofs.Common.{◌≡◌, ℕ, zero, suc, ◌+◌, ◌<◌, ◌≤◌, List, [], ◌∷◌, ◌++◌, length, map, take, drop, reverse, get_or, append_assoc, add-one, drop-cons, refl, sym, ap, ◌∙◌, subst, arith}
 use Rattle.std.specs.Prelude.{sum}
 use Rattle.std.specs.List.{AllByRecursion}
 use Rattle.std.proofs.Math.Seq.{take-append_seam}
@@ -15,8 +15,8 @@ use Rattle.sc_word.specs.Typed.{TypedWords}
 use Rattle.sc_word.specs.Fits.{IsTypedFn}
 use Rattle.sc_rev.specs.declared.bit_gate.BitGate.{BitGate}
 use Rattle.sc_rev.specs.declared.draft.Draft.{Draft}
-use Rattle.sc_rev.specs.BitBodies.{scratch_items, gate_items, scratch_body, reversible_body}
-use Rattle.sc_rev.specs.Cells.{gate_of, copies, whole}
+use Rattle.sc_rev.specs.BitBodies.{gate_items, scratch_body, reversible_body}
+use Rattle.sc_rev.specs.Cells.{gate_of, copies}
 use Rattle.sc_rev.specs.Circuits.{Circuit}
 use Rattle.sc_rev.specs.Functions.{circuit_all, words_from, operands_of, compute, steps_of}
 use Rattle.sc_rev.specs.Emitting.{Draws}

@@ -1,17 +1,15 @@
 -- Sums, differences and comparisons.
-use Rattle.std.proofs.Common.{◌≡◌, ℕ, zero, suc, ◌+◌, ◌-◌, ◌*◌, ◌/◌, ◌%◌, ◌^◌, ◌<◌, ◌≤◌, ◌≢◌, ◌⊎◌, inl, inr, Bool, true, false, not, ◌&&◌, ◌||◌, nat_eq, nat_lt, List, [], ◌∷◌, ◌++◌, length, map, take, drop, Option, Some, None, if◌then◌else◌, bit_and, bit_or, bit_xor, refl, sym, ap, ◌∙◌, subst, arith, rules}
+use Rattle.std.proofs.Common.{◌≡◌, ℕ, zero, suc, ◌+◌, ◌-◌, ◌*◌, ◌%◌, ◌^◌, ◌<◌, ◌≤◌, ◌⊎◌, inl, inr, Bool, true, false, nat_lt, List, [], ◌∷◌, ◌++◌, length, map, Option, Some, None, refl, sym, ap, ◌∙◌, subst, arith}
 use Rattle.std.proofs.lemmas.Nat.{mod_low}
-use Rattle.std.proofs.lemmas.Bool.Decides.{Decides-ltb, nat_tests, eqb_tells, leb_tells}
-use Rattle.sc_rev.specs.declared.bit_gate.BitGate.{BitGate}
-use Rattle.sc_rev.specs.declared.bit_gate.BitGate.TheVariants.{X, Cnot, Toffoli}
-use Rattle.sc_gate.specs.Runs.{xor, bit, number}
-use Rattle.sc_rev.specs.Cells.{wires_from, and_gate, each, not_cell, and_cell, xor_cell, or_cell, same_cell, carry_in, carry_on, rows, adder}
-use Rattle.sc_rev.specs.Circuits.{Circuit, joined, each_piece, not_piece, adder_piece, add_piece, sub_piece, last_wire, less_piece}
-use Rattle.sc_rev.proofs.Run.{Wires, flip, target, fires, step, run, run_append, Every, every_weaker, every_append, map_keeps, Held, EachControl, Control, Placed, run_keeps, from_before}
-use Rattle.sc_rev.proofs.Fill.{fill, fill_keeps, fill_word, IsCell, pairs, each_fills, not_is, and_is, xor_is, or_is, same_is}
-use Rattle.sc_rev.proofs.Adder.{carry, sums, carries, After, after_weaker, rows_fill}
-use Rattle.sc_rev.proofs.Number.{number_lt, number_not, sums_mod, sums_number, sums_length, top, weight, fill_top}
-use Rattle.sc_rev.proofs.Makes.{bits_length, Zero, Makes, Operands, held_below, held_later, fresh_held, fresh_length, word_keeps, zero_after, joined_makes, cnot_placed, and_placed, x_placed, same_lengths, filled_word, not_makes, not_value, each_word, not_places, each_places}
+use Rattle.std.proofs.lemmas.Bool.Decides.{nat_tests, leb_tells}
+use Rattle.sc_gate.specs.Runs.{bit, number}
+use Rattle.sc_rev.specs.Cells.{wires_from, carry_in, carry_on, rows, adder}
+use Rattle.sc_rev.specs.Circuits.{Circuit, joined, not_piece, adder_piece, add_piece, sub_piece, last_wire, less_piece}
+use Rattle.sc_rev.proofs.Run.{Wires, run, Every, every_append, map_keeps, Held, Placed, from_before}
+use Rattle.sc_rev.proofs.Fill.{fill, fill_keeps}
+use Rattle.sc_rev.proofs.Adder.{sums, carries, After, after_weaker, rows_fill}
+use Rattle.sc_rev.proofs.Number.{number_lt, sums_mod, sums_number, sums_length, top, weight, fill_top}
+use Rattle.sc_rev.proofs.Makes.{bits_length, Zero, Makes, Operands, held_below, held_later, fresh_held, fresh_length, word_keeps, zero_after, joined_makes, cnot_placed, and_placed, same_lengths, filled_word, not_makes}
 
 carry_in_places : (from : Option ℕ) (lo hi n m t c : ℕ) → hi ≤ n → n ≤ t → t < c → c ≤ m → After from (suc t) c → Every (Placed lo hi n m) (carry_in from t)
 carry_in_places None lo hi n m t c h i j k a = tt

@@ -1,11 +1,10 @@
 -- Worked gates: the sum of two words of width 2, and the first gates of a comparison with 3.
-use Rattle.std.proofs.Common.{◌≡◌, ℕ, refl, List, [], ◌∷◌, length, take}
+use Rattle.std.proofs.Common.{◌≡◌, refl, [], ◌∷◌, length, take}
 use Rattle.sc_syntax.specs.declared.WordOp.TheVariants as op
 use Rattle.sc_word.specs.Pure.{PureTyped, PureTypedLinks}
 use Rattle.sc_word.specs.Typed.{TypedWords}
-use Rattle.sc_rev.specs.declared.bit_gate.BitGate.{BitGate}
 use Rattle.sc_rev.specs.declared.bit_gate.BitGate.TheVariants.{X, Cnot, Toffoli}
-use Rattle.sc_rev.specs.Functions.{compute, steps_of}
+use Rattle.sc_rev.specs.Functions.{steps_of}
 
 -- fn(2) add(a: 2, b: 2) = a + b
 abbrev add : TypedWords

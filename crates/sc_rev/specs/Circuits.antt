@@ -1,8 +1,8 @@
 -- The piece of circuit that each operation makes from its operands' wires: gates, the word's wires, and the next fresh wire.
-use Rattle.std.specs.Prelude.{ℕ, zero, suc, ◌+◌, ◌-◌, ◌*◌, ◌/◌, ◌%◌, ◌^◌, Bool, true, false, not, ◌&&◌, nat_eq, nat_lt, if◌then◌else◌, min, List, [], ◌∷◌, ◌++◌, map, length, take, drop, Option, Some, None}
+use Rattle.std.specs.Prelude.{ℕ, zero, suc, ◌+◌, ◌-◌, ◌/◌, ◌%◌, nat_eq, if◌then◌else◌, min, List, [], ◌∷◌, ◌++◌, map, length, take, drop}
 use Rattle.sc_rev.specs.declared.bit_gate.BitGate.{BitGate}
 use Rattle.sc_rev.specs.declared.bit_gate.BitGate.TheVariants.{X, Cnot, Toffoli}
-use Rattle.sc_rev.specs.Cells.{wires_from, each, not_cell, and_cell, xor_cell, or_cell, same_cell, adder}
+use Rattle.sc_rev.specs.Cells.{wires_from, each, not_cell, and_cell, same_cell, adder}
 
 pub record Circuit : Type 0 where
   pub gates : List BitGate

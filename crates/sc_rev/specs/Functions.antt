@@ -1,5 +1,5 @@
 -- The gates of a classical function: its value is computed into scratch, copied to the output, and uncomputed.
-use Rattle.std.specs.Prelude.{ℕ, zero, suc, ◌+◌, ◌-◌, if◌then◌else◌, List, [], ◌∷◌, ◌++◌, map, sum, slice_index}
+use Rattle.std.specs.Prelude.{ℕ, zero, suc, ◌+◌, if◌then◌else◌, List, [], ◌∷◌, ◌++◌, map, sum, slice_index}
 use Rattle.sc_gate.specs.declared.gate.Gate.{Gate}
 use Rattle.sc_syntax.specs.declared.WordOp.{WordOp}
 use Rattle.sc_syntax.specs.declared.WordOp.TheVariants as op

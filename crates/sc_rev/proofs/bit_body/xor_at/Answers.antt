@@ -1,6 +1,6 @@
-use Rattle.std.proofs.Common.{◌≡◌, ℕ, zero, suc, ◌<◌, ◌≤◌, Bool, true, false, not, List, [], ◌∷◌, length, get_or, set, refl, sym, ap, ◌∙◌, arith}
+use Rattle.std.proofs.Common.{◌≡◌, ℕ, zero, suc, ◌≤◌, Bool, true, false, not, List, [], ◌∷◌, length, get_or, set, refl, sym, ap, ◌∙◌, arith}
 use mathlib.Core.Bool.{beq}
-use Rattle.sc_gate.specs.Runs.{xor, bit_at, xor_at}
+use Rattle.sc_gate.specs.Runs.{xor, xor_at}
 use Rattle.sc_gate.proofs.BitNumbers.{bit_at-get_or, xor_at-set}
 use Rattle.sc_rev.proofs.bit_body.xor_at.Goals as goal
 

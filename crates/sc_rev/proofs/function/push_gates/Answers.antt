@@ -1,4 +1,4 @@
-use Rattle.std.proofs.Common.{◌≡◌, ap, ◌∙◌}
+use Rattle.std.proofs.Common.{ap, ◌∙◌}
 use Rattle.sc_deck.specs.Bodies.{Contents}
 use Rattle.sc_rev.proofs.Whole.{gates_more, wires_stay}
 use Rattle.sc_rev.proofs.function.push_gates.Goals as goal

@@ -1,11 +1,4 @@
-use Rattle.std.proofs.Common.{◌≡◌, List, ◌++◌, map, sym, ap, ◌∙◌}
-use Rattle.sc_deck.specs.Bodies.{Contents}
-use Rattle.sc_deck.specs.declared.item.Item.{Item}
-use Rattle.sc_word.specs.Scratch.{fn_scratch}
-use Rattle.sc_rev.specs.declared.bit_gate.BitGate.{BitGate}
-use Rattle.sc_rev.specs.BitBodies.{gate_items, scratch_items, scratch_body}
-use Rattle.sc_rev.specs.Cells.{gate_of}
-use Rattle.sc_rev.specs.Functions.{operands_of, steps_of}
+use Rattle.std.proofs.Common.{◌∙◌}
 use Rattle.sc_rev.proofs.Top.{reversible_holds}
 use Rattle.sc_rev.proofs.Whole.{steps_fit, body_made}
 use Rattle.sc_rev.proofs.function.reversible.Goals as goal

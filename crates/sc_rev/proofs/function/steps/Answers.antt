@@ -1,9 +1,9 @@
-use Rattle.std.proofs.Common.{◌≡◌, ℕ, ◌+◌, List, map, arith, ap, ◌∙◌}
+use Rattle.std.proofs.Common.{◌≡◌, ℕ, ◌+◌, map, arith, ap, ◌∙◌}
 use Rattle.std.specs.Prelude.{sum}
 use Rattle.sc_word.specs.Pure.{PureTypedExpr, pure_typed_expr}
 use Rattle.sc_rev.specs.Functions.{words_from}
 use Rattle.sc_rev.specs.Emitting.{wires_of}
-use Rattle.sc_rev.proofs.Whole.{Prepared, drawn_room, copies_room, steps_drawn}
+use Rattle.sc_rev.proofs.Whole.{Prepared, drawn_room, copies_room}
 use Rattle.sc_rev.proofs.function.steps.Goals as goal
 
 pub put_bindings-requires : goal.put_bindings-requires

@@ -1,4 +1,4 @@
-use Rattle.std.proofs.Common.{◌≡◌, arith}
+use Rattle.std.proofs.Common.{arith}
 use Rattle.sc_rev.proofs.Emitting.{fresh_more}
 use Rattle.sc_rev.proofs.draft.Draft.push_fresh.Goals as goal
 

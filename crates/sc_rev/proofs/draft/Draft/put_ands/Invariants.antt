@@ -1,4 +1,4 @@
-use Rattle.std.proofs.Common.{◌≡◌, ℕ, ◌+◌, ◌-◌, ◌++◌, drop}
+use Rattle.std.proofs.Common.{◌≡◌, ◌+◌, ◌-◌, ◌++◌, drop}
 use Rattle.sc_rev.specs.Circuits.{chain_rest}
 use Rattle.sc_rev.proofs.draft.Draft.put_ands.Given as goal
 

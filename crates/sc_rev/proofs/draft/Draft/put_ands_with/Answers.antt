@@ -1,4 +1,4 @@
-use Rattle.std.proofs.Common.{◌≡◌, ℕ, ◌+◌, ◌++◌, [], ◌∷◌, ap, ◌∙◌, arith}
+use Rattle.std.proofs.Common.{◌++◌, [], ◌∷◌, ap, ◌∙◌}
 use Rattle.sc_rev.proofs.Emitting.{with_more, with_done}
 use Rattle.sc_rev.proofs.draft.Draft.put_ands_with.Goals as goal
 

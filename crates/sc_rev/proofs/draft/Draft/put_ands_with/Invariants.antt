@@ -1,4 +1,4 @@
-use Rattle.std.proofs.Common.{◌≡◌, ℕ, ◌+◌, ◌≤◌, ◌++◌, drop, take, length, map}
+use Rattle.std.proofs.Common.{◌≡◌, ◌+◌, ◌++◌, drop, take}
 use Rattle.sc_rev.proofs.Emitting.{ands_with}
 use Rattle.sc_rev.proofs.draft.Draft.put_ands_with.Given as goal
 

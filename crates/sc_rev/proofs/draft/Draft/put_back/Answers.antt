@@ -1,4 +1,4 @@
-use Rattle.std.proofs.Common.{◌≡◌, arith, ◌∙◌}
+use Rattle.std.proofs.Common.{arith, ◌∙◌}
 use Rattle.sc_rev.proofs.Emitting.{back_more, front_more, longer}
 use Rattle.sc_rev.proofs.draft.Draft.put_back.Goals as goal
 

@@ -1,4 +1,4 @@
-use Rattle.std.proofs.Common.{◌≡◌, ℕ, ◌+◌, ◌-◌, ◌≤◌, List, ◌++◌, take, reverse, length}
+use Rattle.std.proofs.Common.{◌≡◌, ◌-◌, ◌≤◌, ◌++◌, take, reverse, length}
 use Rattle.sc_rev.proofs.draft.Draft.put_back.Given as goal
 
 abbrev pub invariant-loop-i : goal.invariant-loop-i

@@ -1,4 +1,4 @@
-use Rattle.std.proofs.Common.{◌≡◌, ℕ, ◌+◌, ◌∙◌}
+use Rattle.std.proofs.Common.{◌∙◌}
 use Rattle.sc_rev.proofs.Emitting.{bits_more, bits_done}
 use Rattle.sc_rev.proofs.draft.Draft.put_bits.Goals as goal
 

@@ -1,4 +1,4 @@
-use Rattle.std.proofs.Common.{◌≡◌, ℕ, ◌+◌, ◌-◌, ◌≤◌, ◌++◌}
+use Rattle.std.proofs.Common.{◌≡◌, ◌+◌, ◌-◌, ◌++◌}
 use Rattle.sc_rev.specs.Circuits.{literal_gates}
 use Rattle.sc_rev.proofs.draft.Draft.put_bits.Given as goal
 

@@ -1,4 +1,3 @@
-use Rattle.std.proofs.Common.{◌≡◌}
 use Rattle.sc_rev.specs.Emitting.{cell_gates}
 use Rattle.sc_rev.proofs.Emitting.{cells_done}
 use Rattle.sc_rev.proofs.draft.Draft.put_cells.Goals as goal

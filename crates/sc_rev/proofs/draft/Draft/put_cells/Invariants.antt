@@ -1,4 +1,4 @@
-use Rattle.std.proofs.Common.{◌≡◌, ℕ, ◌+◌, ◌≤◌, List, ◌++◌, drop, length}
+use Rattle.std.proofs.Common.{◌≡◌, ◌+◌, ◌≤◌, ◌++◌, drop, length}
 use Rattle.sc_rev.specs.Cells.{each}
 use Rattle.sc_rev.specs.Emitting.{cell_gates}
 use Rattle.sc_rev.proofs.draft.Draft.put_cells.Given as goal

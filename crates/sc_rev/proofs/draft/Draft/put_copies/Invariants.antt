@@ -1,4 +1,4 @@
-use Rattle.std.proofs.Common.{◌≡◌, ℕ, ◌+◌, ◌≤◌, List, ◌++◌, drop, length}
+use Rattle.std.proofs.Common.{◌≡◌, ◌+◌, ◌++◌, drop}
 use Rattle.sc_rev.specs.Cells.{copies}
 use Rattle.sc_rev.proofs.draft.Draft.put_copies.Given as goal
 

@@ -1,6 +1,3 @@
-use Rattle.std.proofs.Common.{List, ◌++◌}
-use Rattle.std.specs.declared.vec.Vec.{Vec}
-use Rattle.std.specs.declared.alloc.Global.{Global}
 use Rattle.sc_rev.proofs.Grows.{ok_then, difference_drawn, difference_sum_room, difference_last_room}
 use Rattle.sc_rev.proofs.draft.Draft.put_difference.Goals as goal
 

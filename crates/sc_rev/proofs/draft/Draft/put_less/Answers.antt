@@ -1,4 +1,4 @@
-use Rattle.sc_rev.proofs.Grows.{ok_then, less_drawn, less_sum_room}
+use Rattle.sc_rev.proofs.Grows.{less_sum_room}
 use Rattle.sc_rev.proofs.draft.Draft.put_less.Goals as goal
 
 pub put_adder-requires : goal.put_adder-requires

@@ -1,4 +1,4 @@
-use Rattle.std.proofs.Common.{◌≡◌, ℕ, ◌+◌, ◌∙◌, arith}
+use Rattle.std.proofs.Common.{◌∙◌, arith}
 use Rattle.sc_rev.proofs.Emitting.{picks_more, picks_done}
 use Rattle.sc_rev.proofs.draft.Draft.put_picks.Goals as goal
 

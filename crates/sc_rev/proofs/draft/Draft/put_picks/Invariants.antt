@@ -1,4 +1,4 @@
-use Rattle.std.proofs.Common.{◌≡◌, ℕ, ◌+◌, ◌≤◌, ◌++◌, drop, length}
+use Rattle.std.proofs.Common.{◌≡◌, ◌+◌, ◌≤◌, ◌++◌, drop, length}
 use Rattle.sc_rev.specs.Circuits.{pick_gates}
 use Rattle.sc_rev.proofs.draft.Draft.put_picks.Given as goal
 

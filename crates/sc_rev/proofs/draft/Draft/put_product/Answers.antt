@@ -1,4 +1,4 @@
-use Rattle.std.proofs.Common.{◌≡◌, ℕ, ◌<◌, length, rules, arith, ap}
+use Rattle.std.proofs.Common.{◌<◌, length, rules, arith, ap}
 use Rattle.std.proofs.lemmas.Grind.{common_steps}
 use Rattle.sc_rev.specs.Circuits.{Circuit, mul_piece}
 use Rattle.sc_rev.proofs.Grows.{product_first, part_room, part_goes_on}

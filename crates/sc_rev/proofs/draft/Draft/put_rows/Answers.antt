@@ -1,4 +1,3 @@
-use Rattle.std.proofs.Common.{◌≡◌}
 use Rattle.sc_rev.proofs.Emitting.{put_done}
 use Rattle.sc_rev.proofs.draft.Draft.put_rows.Goals as goal
 

@@ -1,4 +1,4 @@
-use Rattle.std.proofs.Common.{◌≡◌, ℕ, List, ◌++◌, get_or, arith, ap, ◌∙◌}
+use Rattle.std.proofs.Common.{ℕ, List, ◌++◌, get_or, arith, ap, ◌∙◌}
 use Rattle.sc_rev.specs.Cells.{wires_from}
 use Rattle.sc_rev.proofs.Grows.{words_more, sum_more}
 use Rattle.sc_rev.proofs.draft.Draft.put_words.Goals as goal

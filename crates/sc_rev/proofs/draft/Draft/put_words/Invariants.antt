@@ -1,4 +1,4 @@
-use Rattle.std.proofs.Common.{◌≡◌, ℕ, ◌+◌, drop, sum, ◌++◌}
+use Rattle.std.proofs.Common.{◌≡◌, ◌+◌, drop, sum, ◌++◌}
 use Rattle.sc_rev.specs.Functions.{words_from}
 use Rattle.sc_rev.specs.Emitting.{wires_of}
 use Rattle.sc_rev.proofs.draft.Draft.put_words.Given as goal
