@@ -10,7 +10,7 @@ use Rattle.std.proofs.lemmas.List.{nil_from_length}
 use Rattle.sc_deck.specs.declared.item.Item.{Item}
 use Rattle.sc_deck.specs.declared.item.Item.TheVariants as item
 use Rattle.sc_deck.specs.Bodies.{wires_of}
-use Rattle.sc_deck.specs.CallChains.{Calls, IsCallChain, wires_at, chain_wires, ChainFrom, IsReach}
+use Rattle.sc_deck.specs.CallChains.{Calls, IsCallChain, body_wires, chain_wires, CallsFrom, IsReach}
 use Rattle.sc_deck.specs.Decks.{CallsFit, CallEarlier, IsDeck}
 use Rattle.sc_deck.specs.Items.{callees_of}
 use Rattle.sc_deck.specs.Modules.{Module, body_of, from_earlier, greatest, greatest_called, reach_over, reaches_of}
@@ -85,7 +85,7 @@ called_le numbers (k ∷ js) j (suc i, below, at) =
     let g = le-max_right (slice_index numbers k) (greatest (map (slice_index numbers) js)) in
     omega arith
 
-wires_is : (modules : List Module) (i : ℕ) (m : Module) → slice_get modules i ≡ Some m → wires_at modules i ≡ both (wires_of (body_of m))
+wires_is : (modules : List Module) (i : ℕ) (m : Module) → slice_get modules i ≡ Some m → body_wires modules i ≡ both (wires_of (body_of m))
 wires_is modules i m at = ap (λ o. option_map_or (λ (x : Module). both (wires_of (body_of x))) o 0) at
 
 -- NO CHAIN HAS MORE
@@ -118,11 +118,11 @@ attained numbers (k ∷ js) = by (cases_lt (slice_index numbers k) (greatest (ma
     by (inl lt) (inr (j, there, e)) = inr (j, Contains-append_right (k ∷ []) js j there, (let le : slice_index numbers k ≤ greatest (map (slice_index numbers) js) = omega arith in e ∙ sym (max-eq_right le)))
 
 Reached : List Module → List ℕ → ℕ → Type 0
-Reached modules numbers i = (chain : List ℕ) × ChainFrom modules i chain × (chain_wires modules chain ≡ slice_index numbers i)
+Reached modules numbers i = (chain : List ℕ) × CallsFrom modules i chain × (chain_wires modules chain ≡ slice_index numbers i)
 
 -- a chain from a callee, with the caller in front
 chain_more : (modules : List Module) (numbers : List ℕ) → Solved modules numbers → (i : ℕ) (m : Module) → slice_get modules i ≡ Some m → (j : ℕ) → Contains (callees_of m.items) j → slice_index numbers j ≡ greatest_called numbers m.items →
-    (chain : List ℕ) → ChainFrom modules j chain → chain_wires modules chain ≡ slice_index numbers j → Reached modules numbers i
+    (chain : List ℕ) → CallsFrom modules j chain → chain_wires modules chain ≡ slice_index numbers j → Reached modules numbers i
 unfolding Reached
 chain_more modules numbers solved i m at j there most [] from sum = absurd from.calls
 chain_more modules numbers solved i m at j there most (k ∷ rest) from sum =
@@ -168,7 +168,7 @@ reach_by_chains modules deck =
       reached = λ some. reached_by modules (reaches_of modules) solved (length modules) (length modules - 1) (omega arith) (omega arith);
     }
   where
-    bound : (chain : List ℕ) → ChainFrom modules (length modules - 1) chain → chain_wires modules chain ≤ slice_index (reaches_of modules) (length modules - 1)
+    bound : (chain : List ℕ) → CallsFrom modules (length modules - 1) chain → chain_wires modules chain ≤ slice_index (reaches_of modules) (length modules - 1)
     bound [] from = absurd from.calls
     bound (i ∷ rest) from =
         let same : i ≡ length modules - 1 = let s = from.starts in cc in

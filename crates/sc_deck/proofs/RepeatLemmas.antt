@@ -8,7 +8,7 @@ use Rattle.std.proofs.lemmas.Nat.Bits.{bit_at-zero, bit_at-lt, bit_at-pow_same, 
 use Rattle.std.proofs.lemmas.List.Elements.{Contains-push, Contains-append_left}
 use Rattle.sc_base.specs.declared.names.Class.{Class}
 use Rattle.sc_base.specs.declared.names.Class.TheVariants.{Q, C}
-use Rattle.sc_deck.specs.Repeats.{place_at, place_of, mark_at}
+use Rattle.sc_deck.specs.Repeats.{class_place, wire_place, mark_at}
 use Rattle.sc_gate.specs.declared.gate.Wire.{Wire}
 use Rattle.sc_gate.specs.Gates.{AreDistinct, IsNew}
 use Rattle.std.proofs.lemmas.List.{take_more, get_or_past}
@@ -29,18 +29,18 @@ pub AreDistinct-more : (vs : List Wire) (i : ℕ) (d : Wire) → i < length vs �
 AreDistinct-more vs i d below distinct new = rw (take_more vs i d below) (AreDistinct-push (take i vs) (get_or vs i d) distinct new)
 
 -- each place lies in the table
-pub place_within : (w : Wire) (n : ℕ) → n ≡ 2048 → w.number < 65536 → place_of w / 64 < n
+pub place_within : (w : Wire) (n : ℕ) → n ≡ 2048 → w.number < 65536 → wire_place w / 64 < n
 place_within w n size below = by_class w.class w.number below
   where
-    by_class : (c : Class) (k : ℕ) → k < 65536 → place_at c k / 64 < n
+    by_class : (c : Class) (k : ℕ) → k < 65536 → class_place c k / 64 < n
     by_class Q k b = omega arith
     by_class C k b = omega arith
 
 -- two wires with one place in the table are one wire
-same_place : (v w : Wire) → v.number < 65536 → w.number < 65536 → place_of v ≡ place_of w → v ≡ w
+same_place : (v w : Wire) → v.number < 65536 → w.number < 65536 → wire_place v ≡ wire_place w → v ≡ w
 same_place v w a b e = by_class v.class w.class v.number w.number a b e
   where
-    by_class : (c d : Class) (n m : ℕ) → n < 65536 → m < 65536 → place_at c n ≡ place_at d m → (let x : Wire = record { class = c; number = n } in let y : Wire = record { class = d; number = m } in x ≡ y)
+    by_class : (c d : Class) (n m : ℕ) → n < 65536 → m < 65536 → class_place c n ≡ class_place d m → (let x : Wire = record { class = c; number = n } in let y : Wire = record { class = d; number = m } in x ≡ y)
     by_class Q Q n m a b e = λ i. record { class = Q; number = e i }
     by_class C C n m a b e = let f : n ≡ m = omega arith in λ i. record { class = C; number = f i }
     by_class Q C n m a b e = absurd (omega arith)
@@ -50,8 +50,8 @@ same_place v w a b e = by_class v.class w.class v.number w.number a b e
 pub record Table (wires : List Wire) (i : ℕ) (seen : List ℕ) : Type 0 where
   pub size : length seen ≡ 2048
   pub distinct : AreDistinct (take i wires)
-  pub marked : (w : Wire) → w.number < 65536 → mark_at seen (place_of w) ≡ 1 → Contains (take i wires) w
-  pub unmarked : (w : Wire) → w.number < 65536 → mark_at seen (place_of w) ≢ 1 → IsNew w (take i wires)
+  pub marked : (w : Wire) → w.number < 65536 → mark_at seen (wire_place w) ≡ 1 → Contains (take i wires) w
+  pub unmarked : (w : Wire) → w.number < 65536 → mark_at seen (wire_place w) ≢ 1 → IsNew w (take i wires)
 
 word_zero : (seen : List ℕ) → All (λ word. word ≡ 0) seen → (k : ℕ) → slice_index seen k ≡ 0
 word_zero seen fresh k = by (cases_lt k (length seen))
@@ -68,26 +68,26 @@ table_none wires seen size fresh = record {
   unmarked = λ w below mark. tt;
 }
   where
-    unset : (w : Wire) → mark_at seen (place_of w) ≢ 1
+    unset : (w : Wire) → mark_at seen (wire_place w) ≢ 1
     unset w mark =
-        let zero : mark_at seen (place_of w) ≡ 0 = ap (λ (n : ℕ). bit_at n (place_of w % 64)) (word_zero seen fresh (place_of w / 64)) ∙ bit_at-zero (place_of w % 64) in
+        let zero : mark_at seen (wire_place w) ≡ 0 = ap (λ (n : ℕ). bit_at n (wire_place w % 64)) (word_zero seen fresh (wire_place w / 64)) ∙ bit_at-zero (wire_place w % 64) in
         omega (arith, zero, mark)
 
 -- a wire of the table is marked
-pub table_mark : (wires : List Wire) (i : ℕ) (seen now : List ℕ) (d : Wire) → i < length wires → Table wires i seen → (get_or wires i d).number < 65536 → mark_at seen (place_of (get_or wires i d)) ≢ 1 →
-    length now ≡ length seen → mark_at now (place_of (get_or wires i d)) ≡ 1 → ((k : ℕ) → k ≢ place_of (get_or wires i d) → mark_at now k ≡ mark_at seen k) → Table wires (i + 1) now
+pub table_mark : (wires : List Wire) (i : ℕ) (seen now : List ℕ) (d : Wire) → i < length wires → Table wires i seen → (get_or wires i d).number < 65536 → mark_at seen (wire_place (get_or wires i d)) ≢ 1 →
+    length now ≡ length seen → mark_at now (wire_place (get_or wires i d)) ≡ 1 → ((k : ℕ) → k ≢ wire_place (get_or wires i d) → mark_at now k ≡ mark_at seen k) → Table wires (i + 1) now
 table_mark wires i seen now d below table small mark size here others =
     let v : Wire = get_or wires i d in
     record {
       size = size ∙ table.size;
       distinct = AreDistinct-more wires i d below table.distinct (table.unmarked v small mark);
-      marked = λ w b m. elim (cases_eq (place_of w) (place_of v)) [
+      marked = λ w b m. elim (cases_eq (wire_place w) (wire_place v)) [
         | inl e ↦ subst (λ x. Contains (take (i + 1) wires) x) (sym (same_place w v b small e)) (rw (take_more wires i d below) (Contains-push (take i wires) v))
-        | inr n ↦ rw (take_more wires i d below) (Contains-append_left (take i wires) (v ∷ []) w (table.marked w b (sym (others (place_of w) n) ∙ m)))
+        | inr n ↦ rw (take_more wires i d below) (Contains-append_left (take i wires) (v ∷ []) w (table.marked w b (sym (others (wire_place w) n) ∙ m)))
       ];
-      unmarked = λ w b m. elim (cases_eq (place_of w) (place_of v)) [
+      unmarked = λ w b m. elim (cases_eq (wire_place w) (wire_place v)) [
         | inl e ↦ absurd (m (ap (mark_at now) e ∙ here))
-        | inr n ↦ IsNew-more w wires i d below (table.unmarked w b (λ x. m (others (place_of w) n ∙ x))) (λ e. n (ap place_of e))
+        | inr n ↦ IsNew-more w wires i d below (table.unmarked w b (λ x. m (others (wire_place w) n ∙ x))) (λ e. n (ap wire_place e))
       ];
     }
 

@@ -17,21 +17,21 @@ IsCallChain modules (i ∷ []) = i < length modules
 IsCallChain modules (i ∷ j ∷ chain) = Calls modules i j × IsCallChain modules (j ∷ chain)
 
 -- all wires of module i
-abbrev pub wires_at : List Module → ℕ → ℕ
-wires_at modules i = option_map_or (λ (m : Module). both (wires_of (body_of m))) (slice_get modules i) 0
+abbrev pub body_wires : List Module → ℕ → ℕ
+body_wires modules i = option_map_or (λ (m : Module). both (wires_of (body_of m))) (slice_get modules i) 0
 
 -- the wires of all modules of a chain
 abbrev pub chain_wires : List Module → List ℕ → ℕ
 chain_wires modules [] = 0
-chain_wires modules (i ∷ chain) = wires_at modules i + chain_wires modules chain
+chain_wires modules (i ∷ chain) = body_wires modules i + chain_wires modules chain
 
 -- a chain of calls from module i
-pub record ChainFrom (modules : List Module) (i : ℕ) (chain : List ℕ) : Type 0 where
+pub record CallsFrom (modules : List Module) (i : ℕ) (chain : List ℕ) : Type 0 where
   pub calls : IsCallChain modules chain
   pub starts : slice_get chain 0 ≡ Some i
 
 -- the greatest sum of wires along a chain of calls from the last module, and 0 where there is no module
 pub record IsReach (modules : List Module) (reach : ℕ) : Type 0 where
   pub none : length modules ≡ 0 → reach ≡ 0
-  pub greatest : (chain : List ℕ) → ChainFrom modules (length modules - 1) chain → chain_wires modules chain ≤ reach
-  pub reached : 0 < length modules → (chain : List ℕ) × ChainFrom modules (length modules - 1) chain × (chain_wires modules chain ≡ reach)
+  pub greatest : (chain : List ℕ) → CallsFrom modules (length modules - 1) chain → chain_wires modules chain ≤ reach
+  pub reached : 0 < length modules → (chain : List ℕ) × CallsFrom modules (length modules - 1) chain × (chain_wires modules chain ≡ reach)

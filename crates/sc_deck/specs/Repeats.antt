@@ -10,12 +10,12 @@ abbrev pub StandsEarlier : List Wire → ℕ → Type 0
 StandsEarlier wires i = (j : ℕ) × (j < i) × (i < length wires) × (slice_get wires j ≡ slice_get wires i)
 
 -- a place for each wire with a number below 65,536, qubits first
-abbrev pub place_at : Class → ℕ → ℕ
-place_at Q n = n
-place_at C n = n + 65536
+abbrev pub class_place : Class → ℕ → ℕ
+class_place Q n = n
+class_place C n = n + 65536
 
-abbrev pub place_of : Wire → ℕ
-place_of wire = place_at wire.class wire.number
+abbrev pub wire_place : Wire → ℕ
+wire_place wire = class_place wire.class wire.number
 
 -- the bit of a place in a table of words of 64 bits
 abbrev pub mark_at : List ℕ → ℕ → ℕ

@@ -1,7 +1,7 @@
 //! The first wire of a list that stands earlier in it.
 ghost use Rattle.std.specs.Prelude.{◌≡◌, ◌≢◌, ◌<◌, ◌≤◌, ◌↔◌, ◌/◌, ◌^◌, ℕ, List, IsTrue, IfSome, IfNone, Contains, length, take, slice_get, MatchBool, All};
 ghost use Rattle.sc_gate.specs.Gates.{AreDistinct, IsNew};
-ghost use Rattle.sc_deck.specs.Repeats.{StandsEarlier, place_of, mark_at};
+ghost use Rattle.sc_deck.specs.Repeats.{StandsEarlier, wire_place, mark_at};
 
 use sc_base::Class;
 use sc_gate::Wire;
@@ -72,7 +72,7 @@ fn first_repeat_by_table(wires: &[Wire], seen: &mut [u64]) -> Option<usize>
 
 fn place_in_table(wire: &Wire) -> usize
     requires { wire.now.number < 65536 }
-    ensures { result ≡ place_of wire.now }
+    ensures { result ≡ wire_place wire.now }
 {
     match wire.class {
         Class::Q => wire.number as usize,

@@ -14,7 +14,6 @@ pub use gate::{
     Gate, Kind, Wire, arity, cancels, depends, same_gate, same_kind, well_formed, wire_at,
 };
 pub use line::{push_wire, write_gate};
-pub use sc_base::LineBuffer as Line;
 pub use slow::slow_critical;
 pub use times::Times;
 pub use wire_table::WireTable;

@@ -9,7 +9,7 @@ use Rattle.sc_syntax.specs.declared.tree.Expr.{Expr}
 use Rattle.sc_syntax.specs.declared.tree.Node as node
 use Rattle.sc_syntax.specs.declared.tree.Node.{Node, Index', Paren', Unary', Chain', Pick', Row_of-Link, end_of-Link, more_of-Link}
 use Rattle.sc_syntax.specs.Alike.{PureNode, PureLinks, int, decimal, name, index, paren, unary, chain, pick, no_links, link, pure_node, pure_links, pure_expr}
-use Rattle.sc_syntax.specs.Kind.{Kinds, kind_of, kind_of_expr}
+use Rattle.sc_syntax.specs.NameKind.{Kinds, kind_of, kind_of_expr}
 
 -- a node is one of a pure one
 mutual

@@ -5,10 +5,10 @@ pub mod Cuts
 pub mod Directives
 pub mod Formed
 pub mod FormedWords
-pub mod Kind
 pub mod Levels
 pub mod Lexing
 pub mod Marks
+pub mod NameKind
 pub mod Names
 pub mod Pieces
 pub mod Reserved

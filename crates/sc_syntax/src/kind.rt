@@ -1,13 +1,13 @@
 //! Kinds of names and of operations on numbers.
 ghost use Rattle.std.specs.Prelude.{◌≡◌};
-ghost use Rattle.sc_syntax.specs.Kind.{wider, kind_of_unary, kind_of_operation};
+ghost use Rattle.sc_syntax.specs.NameKind.{wider, kind_of_unary, kind_of_operation};
 
 use crate::tree::{BinOp, NumSort, UnOp};
 use sc_base::Class;
 
 /// What a name of numbers or wires stands for.
 #[derive(Clone, Copy, Debug, PartialEq, Eq)]
-pub enum Kind {
+pub enum NameKind {
     Number(NumSort),
     /// One wire.
     One(Class),

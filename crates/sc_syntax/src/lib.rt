@@ -14,7 +14,7 @@ mod token;
 mod tree;
 
 pub use fault::LexFault;
-pub use kind::Kind;
+pub use kind::NameKind;
 pub use lexing::lex;
 pub use token::{Mark, Token, TokenSort, Tokens, Word};
 pub use tree::{

@@ -4,7 +4,7 @@ use Rattle.std.specs.Prelude.{is_some, option_map, find}
 use Rattle.std.specs.List.{All, AllByRecursion, list_any}
 use Rattle.std.proofs.lemmas.List.Elements.{All-head, All-tail}
 use Rattle.sc_base.specs.Texts.{same}
-use Rattle.sc_syntax.specs.declared.Kind.{Kind}
+use Rattle.sc_syntax.specs.declared.NameKind.{NameKind}
 use Rattle.sc_syntax.specs.declared.Name.{Name}
 use Rattle.sc_syntax.specs.declared.Sort.{Sort}
 use Rattle.sc_syntax.specs.declared.Sort.TheVariants as sort
@@ -14,7 +14,7 @@ use Rattle.sc_syntax.specs.declared.Part.{Part}
 use Rattle.sc_syntax.specs.declared.Part.TheVariants as part
 use Rattle.sc_syntax.specs.Alike.{pure_sort, pure_param, pure_stmt, pure_part, in_row}
 use Rattle.sc_syntax.specs.Formed.{IsFormedStmt, IsFormedPart}
-use Rattle.sc_syntax.specs.Kind.{Kinds}
+use Rattle.sc_syntax.specs.NameKind.{Kinds}
 use Rattle.sc_word.specs.Typed.{TypedWords}
 use Rattle.sc_types.specs.declared.fault.TypeFault.TheVariants.{NoMain, Redefined}
 use Rattle.sc_types.specs.Checks.{Check, check, first_fault}
@@ -65,7 +65,7 @@ length_names_are here before ps h = λ i name. each name i
     each name =
         ap (or_pi name) (sym (or_later_int ps name (declared_kind before [] name)))
         ∙ ap (λ (b : Bool). or_pi name (or_int b (declared_kind before [] name))) (later_is name ps)
-        ∙ ap (λ (k : Option Kind). or_pi name (or_int (list_any (is_int_of_name name) (map pure_param ps)) k)) (sym (h.seen name))
+        ∙ ap (λ (k : Option NameKind). or_pi name (or_int (list_any (is_int_of_name name) (map pure_param ps)) k)) (sym (h.seen name))
 
 length_fine : (ks : Kinds) (s : Sort) → first_fault (length_checks ks s) ≡ None → HasLength ks (pure_sort s)
 length_fine ks (sort.One c) fine = tt
@@ -75,11 +75,11 @@ length_fine ks sort.Int fine = tt
 length_fine ks sort.Double fine = tt
 
 -- a name without a fault is new, and known from there on
-name_fine : (here : List Known) (before : List Declaration) (name : Name) (k : Kind) → Stands (here ∷ []) before [] → first_fault (is_new before [] name ∷ []) ≡ None
+name_fine : (here : List Known) (before : List Declaration) (name : Name) (k : NameKind) → Stands (here ∷ []) before [] → first_fault (is_new before [] name ∷ []) ≡ None
     → IsNew here name × Stands (with_name here name k ∷ []) (before ++ declaration name.text k [] ∷ []) []
 name_fine here before name k h fine = by (kind_here here name.text) refl (declare (here ∷ []) before [] name k h)
   where
-    by : (o : Option Kind) → kind_here here name.text ≡ o
+    by : (o : Option NameKind) → kind_here here name.text ≡ o
         → TellsDeclared (over [] (cond (is_some o) (Err (Redefined name.place)) (Ok (here ++ known name.text k ∷ [])))) (here ∷ []) before [] name k
         → IsNew here name × Stands (with_name here name k ∷ []) (before ++ declaration name.text k [] ∷ []) []
     by None is told = (is, told.stands)
@@ -96,7 +96,7 @@ params_fine here before (p ∷ ps) h fine =
     let one : first_fault (length_first ++ name_next) ≡ None = fine_first (length_first ++ name_next) then.checks fine in
     let new = name_fine here before p.name (param_kind p.sort) h (fine_second length_first name_next one) in
     let here_then : List Known = with_name here p.name (kind_of_sort (pure_sort p.sort)) in
-    let stands : Stands (here_then ∷ []) (before ++ d ∷ []) [] = subst (λ (k : Kind). Stands (with_name here p.name k ∷ []) (before ++ d ∷ []) []) (kind_is p.sort) new.1 in
+    let stands : Stands (here_then ∷ []) (before ++ d ∷ []) [] = subst (λ (k : NameKind). Stands (with_name here p.name k ∷ []) (before ++ d ∷ []) []) (kind_is p.sort) new.1 in
     let rest = params_fine here_then (before ++ d ∷ []) ps stands (fine_second (length_first ++ name_next) then.checks fine) in
     let stated : HasLength (names_of_length here (map pure_param ps)) (pure_sort p.sort) =
     subst (λ (ks : Kinds). HasLength ks (pure_sort p.sort)) (length_names_are here before ps h) (length_fine (length_kinds before ps) p.sort (fine_first length_first name_next one)) in (

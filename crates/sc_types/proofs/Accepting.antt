@@ -6,8 +6,8 @@ use Rattle.std.proofs.lemmas.List.Elements.{All-head, All-tail}
 use Rattle.sc_base.specs.declared.Class.{Class}
 use Rattle.sc_base.specs.declared.Class.TheVariants.{Q, C}
 use Rattle.sc_base.specs.declared.Place.{Place}
-use Rattle.sc_syntax.specs.declared.Kind.{Kind}
-use Rattle.sc_syntax.specs.declared.Kind.TheVariants as kind
+use Rattle.sc_syntax.specs.declared.NameKind.{NameKind}
+use Rattle.sc_syntax.specs.declared.NameKind.TheVariants as kind
 use Rattle.sc_syntax.specs.declared.NumSort.{NumSort}
 use Rattle.sc_syntax.specs.declared.NumSort.TheVariants as num
 use Rattle.sc_syntax.specs.declared.BinOp.{BinOp}
@@ -29,7 +29,7 @@ use Rattle.sc_syntax.specs.declared.Act.{Act, If', While', For', Block', Held-Ac
 use Rattle.sc_syntax.specs.declared.Stmt.{Stmt}
 use Rattle.sc_syntax.specs.Alike.{PureExpr, PureAct, PureHeld, set, measure, absent, held, pure_node, pure_expr, pure_decl, pure_init, pure_operand, pure_act, pure_held, pure_row, pure_stmt, in_row}
 use Rattle.sc_syntax.specs.Formed.{IsSettingOption, IsFormedAct, IsFormedActOption, AreFormedStmts, IsFormedStmt}
-use Rattle.sc_syntax.specs.Kind.{Kinds, kind_of_expr, kind_of_operation}
+use Rattle.sc_syntax.specs.NameKind.{Kinds, kind_of_expr, kind_of_operation}
 use Rattle.sc_types.specs.declared.fault.TypeFault.{TypeFault}
 use Rattle.sc_types.specs.declared.fault.TypeFault.TheVariants.{WrongKind, WrongCount, Redefined}
 use Rattle.sc_types.specs.declared.want.Want.{Want}
@@ -69,7 +69,7 @@ int_fine ks e fine =
 
 -- ---- arguments
 
-suited_fine : (suited : Kind → Bool) (at : Place) (k : Option Kind) → first_fault (is_wire suited at k ∷ []) ≡ None → IsSuited suited k
+suited_fine : (suited : NameKind → Bool) (at : Place) (k : Option NameKind) → first_fault (is_wire suited at k ∷ []) ≡ None → IsSuited suited k
 suited_fine suited at None fine = cc
 suited_fine suited at (Some k) fine = one_passes (suited k) (WrongKind at) fine
 
@@ -118,11 +118,11 @@ between (Ok mid) next after e = (mid, refl, e)
 between (Err f) next after e = absurd cc
 
 -- a name that was declared was new
-pub name_fine : (outer : Stack) (here : List Known) (name : Name) (k : Kind) (after : Stack) → declared (here ∷ outer) name k ≡ Ok after
+pub name_fine : (outer : Stack) (here : List Known) (name : Name) (k : NameKind) (after : Stack) → declared (here ∷ outer) name k ≡ Ok after
     → IsNew here name × (after ≡ with_name here name k ∷ outer)
 name_fine outer here name k after e = by (kind_here here name.text) refl e
   where
-    by : (o : Option Kind) → kind_here here name.text ≡ o
+    by : (o : Option NameKind) → kind_here here name.text ≡ o
         → over outer (cond (is_some o) (Err (Redefined name.place)) (Ok (here ++ known name.text k ∷ []))) ≡ Ok after
         → IsNew here name × (after ≡ with_name here name k ∷ outer)
     by None is e = (is, cc)
@@ -167,7 +167,7 @@ inits_fine s outer here (d ∷ ds) after e =
 
 -- ---- numbers that are set
 
-may_fine : (at : Place) (pi : Bool) (k : Option Kind) → first_fault (may_set at pi k ∷ []) ≡ None → (sort : NumSort) × (k ≡ Some (kind.Number sort))
+may_fine : (at : Place) (pi : Bool) (k : Option NameKind) → first_fault (may_set at pi k ∷ []) ≡ None → (sort : NumSort) × (k ≡ Some (kind.Number sort))
 may_fine at true None fine = cc
 may_fine at false None fine = cc
 may_fine at pi (Some (kind.Number s)) fine = (s, refl)
@@ -205,7 +205,7 @@ set_fine names s fine =
       sort = named.0;
       number = named.1;
       fits = there_fine (checks_of (Some named.0)) (GoesInto ks named.0 s.op) (goes_fine ks s.name.place s.place named.0 s.op) s.value
-          (ap (λ (k : Option Kind). first_fault (optional (checks_of (number_of k)) s.value)) (sym named.1) ∙ fine_second first rest fine);
+          (ap (λ (k : Option NameKind). first_fault (optional (checks_of (number_of k)) s.value)) (sym named.1) ∙ fine_second first rest fine);
     }
 
 -- ---- measurements and calls

@@ -5,7 +5,7 @@ use Rattle.sc_syntax.specs.declared.Act.{Act, Wires, Numbers, Set, Measure, Call
 use Rattle.sc_syntax.specs.declared.Part.{Part}
 use Rattle.sc_types.specs.declared.fault.TypeFault.{TypeFault}
 use Rattle.sc_types.specs.Checks.{first_fault}
-use Rattle.sc_types.specs.Declarations.{Declaration, Scope, is_prefix, kinds}
+use Rattle.sc_types.specs.Declarations.{Declaration, ScopePath, is_prefix, kinds}
 use Rattle.sc_types.specs.Numbers.{number_checks}
 use Rattle.sc_types.specs.Scopes.{Stack, Stands, StandsAtBody, kinds_in}
 use Rattle.sc_types.specs.Sorts.{◌>>=◌}
@@ -16,45 +16,45 @@ use Rattle.sc_types.proofs.Nesting.{every_append, every_weaker, AreBeside, IsBes
 use Rattle.sc_types.proofs.Walks.{Tells, IsHere, nothing, turns, weaker, own_scope, scoped, checks_known, only_known, only_declared, wires_told, inits_told}
 
 -- what is inside a way is inside a shorter one, and in the scope of the statement
-shorter : (way more : Scope) (d : Declaration) → IsInside (way ++ more) d → IsInside way d
+shorter : (way more : ScopePath) (d : Declaration) → IsInside (way ++ more) d → IsInside way d
 shorter way more d h = (inside_shorter way more (d ∷ []) (h, tt)).0
 
-made : (place : Scope) (i : ℕ) (d : Declaration) → IsInside (place ++ i ∷ []) d → IsMade place i d
+made : (place : ScopePath) (i : ℕ) (d : Declaration) → IsInside (place ++ i ∷ []) d → IsMade place i d
 made place i d h = (made_within place i (d ∷ []) (h, tt)).0
 
-kept : (place : Scope) (i : ℕ) (d : Declaration) → IsMade place i d → IsInside place d
+kept : (place : ScopePath) (i : ℕ) (d : Declaration) → IsMade place i d → IsInside place d
 kept place i d h = (made_inside place i (d ∷ []) (h, tt)).0
 
 -- a body in the scope of a part of the statement
-nested : (f : Stack → Result Stack TypeFault) (w : Scope → Walk) (stack : Stack) (before : List Declaration) (place : Scope) (i k : ℕ)
+nested : (f : Stack → Result Stack TypeFault) (w : ScopePath → Walk) (stack : Stack) (before : List Declaration) (place : ScopePath) (i k : ℕ)
     → Stands stack before place → AreAlike place ((place ++ i ∷ []) ++ k ∷ []) before → AreBeside ((place ++ i ∷ []) ++ k ∷ []) before
     → ((h : Stands ([] ∷ stack) before ((place ++ i ∷ []) ++ k ∷ [])) → AreBeside (((place ++ i ∷ []) ++ k ∷ []) ++ 0 ∷ []) before
     → Tells (IsMade ((place ++ i ∷ []) ++ k ∷ []) 0) (f ([] ∷ stack)) ([] ∷ stack) before ((place ++ i ∷ []) ++ k ∷ []) (w (((place ++ i ∷ []) ++ k ∷ []) ++ 0 ∷ [])))
     → Tells (IsInside ((place ++ i ∷ []) ++ k ∷ [])) (inside f stack) stack before place (w ((place ++ i ∷ []) ++ k ∷ 0 ∷ []))
 nested f w stack before place i k h sight free t =
-    subst (λ (way : Scope). Tells (IsInside ((place ++ i ∷ []) ++ k ∷ [])) (inside f stack) stack before place (w way)) (append_assoc (place ++ i ∷ []) (k ∷ []) (0 ∷ []))
+    subst (λ (way : ScopePath). Tells (IsInside ((place ++ i ∷ []) ++ k ∷ [])) (inside f stack) stack before place (w way)) (append_assoc (place ++ i ∷ []) (k ∷ []) (0 ∷ []))
     (scoped f stack before place ((place ++ i ∷ []) ++ k ∷ []) i (k ∷ []) (w (((place ++ i ∷ []) ++ k ∷ []) ++ 0 ∷ [])) refl h sight free t)
 
 -- the same where the place is the scope of the statement
-nested_here : (f : Stack → Result Stack TypeFault) (w : Scope → Walk) (stack : Stack) (before : List Declaration) (place : Scope) (k : ℕ)
+nested_here : (f : Stack → Result Stack TypeFault) (w : ScopePath → Walk) (stack : Stack) (before : List Declaration) (place : ScopePath) (k : ℕ)
     → Stands stack before place → AreBeside (place ++ k ∷ []) before
     → ((h : Stands ([] ∷ stack) before (place ++ k ∷ [])) → AreBeside ((place ++ k ∷ []) ++ 0 ∷ []) before
     → Tells (IsMade (place ++ k ∷ []) 0) (f ([] ∷ stack)) ([] ∷ stack) before (place ++ k ∷ []) (w ((place ++ k ∷ []) ++ 0 ∷ [])))
     → Tells (IsInside (place ++ k ∷ [])) (inside f stack) stack before place (w (place ++ k ∷ 0 ∷ []))
 nested_here f w stack before place k h free t =
     let is : place ++ k ∷ [] ≡ (place ++ k ∷ []) ++ [] = sym (append-nil (place ++ k ∷ [])) in
-    subst (λ (way : Scope). Tells (IsInside (place ++ k ∷ [])) (inside f stack) stack before place (w way)) (append_assoc place (k ∷ []) (0 ∷ []))
+    subst (λ (way : ScopePath). Tells (IsInside (place ++ k ∷ [])) (inside f stack) stack before place (w way)) (append_assoc place (k ∷ []) (0 ∷ []))
     (scoped f stack before place (place ++ k ∷ []) k [] (w ((place ++ k ∷ []) ++ 0 ∷ [])) is h
-    (subst (λ (inner : Scope). AreAlike place inner before) (sym is) (alike_beside place k [] before free)) free t)
+    (subst (λ (inner : ScopePath). AreAlike place inner before) (sym is) (alike_beside place k [] before free)) free t)
 
 -- the statement has the scope of its number, and begins there without names
-begun : (stack : Stack) (before : List Declaration) (place : Scope) (i : ℕ) → Stands stack before place → AreBeside (place ++ i ∷ []) before → Stands ([] ∷ stack) before (place ++ i ∷ [])
+begun : (stack : Stack) (before : List Declaration) (place : ScopePath) (i : ℕ) → Stands stack before place → AreBeside (place ++ i ∷ []) before → Stands ([] ∷ stack) before (place ++ i ∷ [])
 begun stack before place i h free =
     enter stack before (place ++ i ∷ []) free (step_in stack before place (place ++ i ∷ [])
-    (subst (λ (inner : Scope). AreAlike place inner before) (append-nil (place ++ i ∷ [])) (alike_beside place i [] before free)) (sees stack before place h))
+    (subst (λ (inner : ScopePath). AreAlike place inner before) (append-nil (place ++ i ∷ [])) (alike_beside place i [] before free)) (sees stack before place h))
 
 mutual
-  pub act_told : (parts : List Part) (act : Act) (stack : Stack) (before : List Declaration) (place : Scope) (i : ℕ) → Stands stack before place → AreBeside (place ++ i ∷ []) before
+  pub act_told : (parts : List Part) (act : Act) (stack : Stack) (before : List Declaration) (place : ScopePath) (i : ℕ) → Stands stack before place → AreBeside (place ++ i ∷ []) before
       → Tells (IsMade place i) (act_on parts stack act) stack before place (walk_act parts before place (place ++ i ∷ []) act)
   act_told parts (Wires c ds) stack before place i h free =
       weaker (IsHere place) (IsMade place i) (made_here place i) (wires_on c stack ds) stack before place (walk_decls before place c ds) (wires_told c ds stack before place h)
@@ -64,7 +64,7 @@ mutual
   act_told parts (Measure m) stack before place i h free = only_known (IsMade place i) (λ ks. measure_checks ks m) stack before place h
   act_told parts (Call c) stack before place i h free = only_known (IsMade place i) (λ ks. call_checks parts ks c) stack before place h
   act_told parts (If' e b p act other) stack before place i h free =
-      let own : Scope = place ++ i ∷ [] in
+      let own : ScopePath = place ++ i ∷ [] in
       checks_known (IsMade place i) (λ ks. number_checks ks e) (inside (λ inner. act_on parts inner act) stack >>= λ after. else_on parts after other) stack before place
       (λ known. in_turn known (walk_act parts known (own ++ 0 ∷ []) (own ++ 0 ∷ 0 ∷ []) act) (λ known. walk_held parts known (own ++ 1 ∷ []) (own ++ 1 ∷ 0 ∷ []) other)) h
       (turns (IsInside (own ++ 0 ∷ [])) (IsInside (own ++ 1 ∷ [])) (IsMade place i) (inside (λ inner. act_on parts inner act) stack) (λ after. else_on parts after other) stack before place
@@ -85,7 +85,7 @@ mutual
       (alike_beside place i (0 ∷ []) before free) (beside_longer (place ++ i ∷ []) (0 ∷ []) before free)
       (λ k room. act_told parts act ([] ∷ stack) before ((place ++ i ∷ []) ++ 0 ∷ []) 0 k room)))
   act_told parts (For' start test advance b p act) stack before place i h free =
-      let own : Scope = place ++ i ∷ [] in
+      let own : ScopePath = place ++ i ∷ [] in
       let room : HasRoom own 0 before = room_within own before free in
       let walk_body : List Declaration → Walk = λ known. walk_act parts known (own ++ 2 ∷ []) (own ++ 2 ∷ 0 ∷ []) act in
       let walk_advance : List Declaration → Walk = λ known. in_turn known (walk_held parts known own (own ++ 1 ∷ []) advance) walk_body in
@@ -107,19 +107,19 @@ mutual
       nested_here (λ inner. act_on parts inner act) (λ way. walk_act parts all (own ++ 2 ∷ []) way act) r all own 2 w.stands (room_last.free 2 (omega arith))
       (λ k last. act_told parts act ([] ∷ r) all (own ++ 2 ∷ []) 0 k last))))))
   act_told parts (Block' shape row) stack before place i h free =
-      let own : Scope = place ++ i ∷ [] in
+      let own : ScopePath = place ++ i ∷ [] in
       weaker (IsInside own) (IsMade place i) (made place i) (inside (λ inner. row_on parts inner row) stack) stack before place (walk_row parts before own 0 row)
       (own_scope (λ inner. row_on parts inner row) stack before place own i [] (walk_row parts before own 0 row) (sym (append-nil own)) h
       (row_told parts row ([] ∷ stack) before own 0 (begun stack before place i h free) (room_within own before free)))
   act_told parts Empty stack before place i h free = nothing (IsMade place i) stack before place h
 
-  pub held_told : (parts : List Part) (held : Held-Act-If-2) (stack : Stack) (before : List Declaration) (place : Scope) (i : ℕ) → Stands stack before place → AreBeside (place ++ i ∷ []) before
+  pub held_told : (parts : List Part) (held : Held-Act-If-2) (stack : Stack) (before : List Declaration) (place : ScopePath) (i : ℕ) → Stands stack before place → AreBeside (place ++ i ∷ []) before
       → Tells (IsMade place i) (held_on parts stack held) stack before place (walk_held parts before place (place ++ i ∷ []) held)
   held_told parts None' stack before place i h free = nothing (IsMade place i) stack before place h
   held_told parts (Some' b p act) stack before place i h free = act_told parts act stack before place i h free
 
   -- an `else` has the scope of the part after the body
-  pub else_told : (parts : List Part) (held : Held-Act-If-2) (stack : Stack) (before : List Declaration) (place : Scope) (i : ℕ) → Stands stack before place
+  pub else_told : (parts : List Part) (held : Held-Act-If-2) (stack : Stack) (before : List Declaration) (place : ScopePath) (i : ℕ) → Stands stack before place
       → AreAlike place ((place ++ i ∷ []) ++ 1 ∷ []) before → AreBeside ((place ++ i ∷ []) ++ 1 ∷ []) before
       → Tells (IsInside ((place ++ i ∷ []) ++ 1 ∷ [])) (else_on parts stack held) stack before place (walk_held parts before ((place ++ i ∷ []) ++ 1 ∷ []) ((place ++ i ∷ []) ++ 1 ∷ 0 ∷ []) held)
   else_told parts None' stack before place i h sight free = nothing (IsInside ((place ++ i ∷ []) ++ 1 ∷ [])) stack before place h
@@ -127,7 +127,7 @@ mutual
       nested (λ inner. act_on parts inner act) (λ way. walk_act parts before ((place ++ i ∷ []) ++ 1 ∷ []) way act) stack before place i 1 h sight free
       (λ k room. act_told parts act ([] ∷ stack) before ((place ++ i ∷ []) ++ 1 ∷ []) 0 k room)
 
-  pub row_told : {m : _} (parts : List Part) (row : Row_of-Stmt m) (stack : Stack) (before : List Declaration) (place : Scope) (i : ℕ) → Stands stack before place → HasRoom place i before
+  pub row_told : {m : _} (parts : List Part) (row : Row_of-Stmt m) (stack : Stack) (before : List Declaration) (place : ScopePath) (i : ℕ) → Stands stack before place → HasRoom place i before
       → Tells (IsInside place) (row_on parts stack row) stack before place (walk_row parts before place i row)
   row_told parts end_of-Stmt stack before place i h room = nothing (IsInside place) stack before place h
   row_told parts (more_of-Stmt at act rest) stack before place i h room =

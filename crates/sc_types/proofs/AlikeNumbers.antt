@@ -6,7 +6,7 @@ use Rattle.sc_syntax.specs.declared.NumSort.{NumSort}
 use Rattle.sc_syntax.specs.declared.Expr.{Expr}
 use Rattle.sc_syntax.specs.declared.Node.{Node, Row_of-Link}
 use Rattle.sc_syntax.specs.Alike.{PureNode, PureLinks, pure_expr}
-use Rattle.sc_syntax.specs.Kind.{Kinds, ◌>>=◌, kind_of_operation, kind_of_unary, wider, kind_of_node, kind_of_row}
+use Rattle.sc_syntax.specs.NameKind.{Kinds, ◌>>=◌, kind_of_operation, kind_of_unary, wider, kind_of_node, kind_of_row}
 use Rattle.sc_syntax.proofs.AlikeLists.{Each, none, next}
 use Rattle.sc_syntax.proofs.AlikeNodes.{IsNode, int_is, decimal_is, name_is, index_is, paren_is, unary_is, chain_is, pick_is, AreLinks, no_links_are, link_are, over_alike}
 use Rattle.sc_types.specs.declared.fault.TypeFault.TheVariants.{WrongKind}

@@ -4,8 +4,8 @@ use Rattle.std.specs.Prelude.{not, nat_eq, option_map, find, replicate, codes}
 use Rattle.sc_base.specs.Texts.{same}
 use Rattle.sc_base.specs.declared.Class.{Class}
 use Rattle.sc_syntax.specs.declared.Expr.{Expr}
-use Rattle.sc_syntax.specs.declared.Kind.{Kind}
-use Rattle.sc_syntax.specs.declared.Kind.TheVariants as kind
+use Rattle.sc_syntax.specs.declared.NameKind.{NameKind}
+use Rattle.sc_syntax.specs.declared.NameKind.TheVariants as kind
 use Rattle.sc_syntax.specs.declared.NumSort.TheVariants as num
 use Rattle.sc_syntax.specs.declared.Name.{Name}
 use Rattle.sc_syntax.specs.declared.Stmt.{Stmt}
@@ -16,7 +16,7 @@ use Rattle.sc_syntax.specs.declared.Part.TheVariants as part
 use Rattle.sc_syntax.specs.declared.Sort.{Sort}
 use Rattle.sc_syntax.specs.declared.Sort.TheVariants as sort
 use Rattle.sc_syntax.specs.declared.WordFn.{WordFn}
-use Rattle.sc_syntax.specs.Kind.{Kinds}
+use Rattle.sc_syntax.specs.NameKind.{Kinds}
 use Rattle.sc_syntax.specs.Alike.{pure_expr, pure_sort, pure_param, pure_stmt, pure_bind, pure_word_expr, pure_part}
 use Rattle.sc_types.specs.declared.want.Want.TheVariants.{OneWire, ManyWires, Word}
 use Rattle.sc_types.specs.declared.fault.TypeFault.TheVariants.{Redefined, NoMain}
@@ -83,7 +83,7 @@ int_named name p q h = λ i. by (h i).name (param_sort p q h) i
     by n a_double = refl
 
 -- alike later parameters give a name one meaning
-later_alike : (name : List ℕ) (k : Option Kind) {ps qs : List Param} → Each pure_param ps qs → or_later ps name k ≡ or_later qs name k
+later_alike : (name : List ℕ) (k : Option NameKind) {ps qs : List Param} → Each pure_param ps qs → or_later ps name k ≡ or_later qs name k
 later_alike name (Some k) h = refl
 later_alike name None h = λ i. if any_alike pure_param (is_int_named name) (int_named name) h i then Some (kind.Number num.Int) else None
 

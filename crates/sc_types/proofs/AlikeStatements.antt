@@ -5,7 +5,7 @@ use mathlib.Core.Former.{Count}
 use Rattle.sc_base.specs.declared.Class.{Class}
 use Rattle.sc_base.specs.declared.Class.TheVariants.{Q, C}
 use Rattle.sc_base.specs.declared.Place.{Place}
-use Rattle.sc_syntax.specs.declared.Kind.TheVariants as kind
+use Rattle.sc_syntax.specs.declared.NameKind.TheVariants as kind
 use Rattle.sc_syntax.specs.declared.NumSort.{NumSort}
 use Rattle.sc_syntax.specs.declared.NumSort.TheVariants as num
 use Rattle.sc_syntax.specs.declared.SetOp.{SetOp}
@@ -19,12 +19,12 @@ use Rattle.sc_syntax.specs.declared.Callee.TheVariants.{Gate, Named}
 use Rattle.sc_syntax.specs.declared.Part.{Part}
 use Rattle.sc_syntax.specs.declared.Act.{Act, Held-Act-If-2, Row_of-Stmt}
 use Rattle.sc_syntax.specs.Alike.{pure_expr, pure_decl, pure_init, pure_operand, PureAct, PureHeld, PureStmts, pure_act}
-use Rattle.sc_syntax.specs.Kind.{Kinds, kind_of_expr}
+use Rattle.sc_syntax.specs.NameKind.{Kinds, kind_of_expr}
 use Rattle.sc_types.specs.declared.fault.TypeFault.TheVariants.{WrongCount}
 use Rattle.sc_types.specs.declared.want.Want.{Want}
 use Rattle.sc_types.specs.declared.want.Want.TheVariants.{OneWire}
 use Rattle.sc_types.specs.Checks.{Check, check}
-use Rattle.sc_types.specs.Declarations.{Declaration, Scope, kinds, with_pi, declared_kind, is_pi, is_new}
+use Rattle.sc_types.specs.Declarations.{Declaration, ScopePath, kinds, with_pi, declared_kind, is_pi, is_new}
 use Rattle.sc_types.specs.Numbers.{number_checks, int_checks}
 use Rattle.sc_types.specs.Wires.{is_wire, suits, suits_indexed, operand_checks, gate_wants}
 use Rattle.sc_types.specs.Statements.{only, in_turn, optional, wire_kind, start_checks, walk_decls, walk_inits, may_set, number_of, set_by, fit_checks, set_checks, applied, called, call_checks, named_wants, walk_act, walk_held, walk_row}
@@ -48,7 +48,7 @@ wire_kind_alike c rows.absent = refl
 wire_kind_alike c (rows.held same) = refl
 
 -- alike declarations of wires
-decls_alike : (before : List Declaration) (scope : Scope) (c : Class) {ds es : List Decl} → Each pure_decl ds es → walk_decls before scope c ds ≡ walk_decls before scope c es
+decls_alike : (before : List Declaration) (scope : ScopePath) (c : Class) {ds es : List Decl} → Each pure_decl ds es → walk_decls before scope c ds ≡ walk_decls before scope c es
 decls_alike before scope c none = refl
 decls_alike before scope c (next {x = d} {y = e} h hs) =
     let size : Held pure_expr d.size e.size = held_of pure_expr d.size e.size (λ i. (h i).value) in
@@ -63,7 +63,7 @@ start_expr ks num.Int = int_expr ks
 start_expr ks num.Double = number_expr ks
 
 -- alike declarations of numbers
-inits_alike : (before : List Declaration) (scope : Scope) (s : NumSort) {ds es : List Init} → Each pure_init ds es → walk_inits before scope s ds ≡ walk_inits before scope s es
+inits_alike : (before : List Declaration) (scope : ScopePath) (s : NumSort) {ds es : List Init} → Each pure_init ds es → walk_inits before scope s ds ≡ walk_inits before scope s es
 inits_alike before scope s none = refl
 inits_alike before scope s (next {x = d} {y = e} h hs) =
     let start : Held pure_expr d.start e.start = held_of pure_expr d.start e.start (λ i. (h i).value) in
@@ -113,7 +113,7 @@ call_alike ps qs wants ks (Named t) at h = λ i. called_alike ks at (wants t i) 
 -- ---- statements of one pure statement
 
 mutual
-  walk_alike : {x : PureAct} {a b : Act} (ps qs : List Part) → SameWants ps qs → (before : List Declaration) (scope own : Scope) → IsAct x a → IsAct x b
+  walk_alike : {x : PureAct} {a b : Act} (ps qs : List Part) → SameWants ps qs → (before : List Declaration) (scope own : ScopePath) → IsAct x a → IsAct x b
       → walk_act ps before scope own a ≡ walk_act qs before scope own b
   walk_alike ps qs wants before scope own (wires_is {c = c} {ds = ds} h) (wires_is {ds = es} g) = decls_alike before scope c (each pure_decl ds es (h ∙ sym g))
   walk_alike ps qs wants before scope own (numbers_is {s = s} {ds = ds} h) (numbers_is {ds = es} g) = inits_alike before scope s (each pure_init ds es (h ∙ sym g))
@@ -137,18 +137,18 @@ mutual
   walk_alike ps qs wants before scope own (block_is hs) (block_is gs) = stmts_alike ps qs wants before own 0 hs gs
   walk_alike ps qs wants before scope own empty_is empty_is = refl
 
-  held_alike : {x : PureHeld} {a b : Held-Act-If-2} (ps qs : List Part) → SameWants ps qs → (before : List Declaration) (scope own : Scope) → IsHeld x a → IsHeld x b
+  held_alike : {x : PureHeld} {a b : Held-Act-If-2} (ps qs : List Part) → SameWants ps qs → (before : List Declaration) (scope own : ScopePath) → IsHeld x a → IsHeld x b
       → walk_held ps before scope own a ≡ walk_held qs before scope own b
   held_alike ps qs wants before scope own absent_is absent_is = refl
   held_alike ps qs wants before scope own (held_is h) (held_is g) = walk_alike ps qs wants before scope own h g
 
-  stmts_alike : {x : PureStmts} {k j : Count} {r : Row_of-Stmt k} {s : Row_of-Stmt j} (ps qs : List Part) → SameWants ps qs → (before : List Declaration) (scope : Scope) (n : ℕ)
+  stmts_alike : {x : PureStmts} {k j : Count} {r : Row_of-Stmt k} {s : Row_of-Stmt j} (ps qs : List Part) → SameWants ps qs → (before : List Declaration) (scope : ScopePath) (n : ℕ)
       → AreStmts x k r → AreStmts x j s → walk_row ps before scope n r ≡ walk_row qs before scope n s
   stmts_alike ps qs wants before scope n no_stmts_are no_stmts_are = refl
   stmts_alike ps qs wants before scope n (stmt_are h hs) (stmt_are g gs) =
       λ i. in_turn before (walk_alike ps qs wants before scope (scope ++ n ∷ []) h g i) (λ known. stmts_alike ps qs wants known scope (suc n) hs gs i)
 
 -- alike statements are walked alike
-pub act_alike : (ps qs : List Part) → SameWants ps qs → (before : List Declaration) (scope own : Scope) (a b : Act) → pure_act a ≡ pure_act b
+pub act_alike : (ps qs : List Part) → SameWants ps qs → (before : List Declaration) (scope own : ScopePath) (a b : Act) → pure_act a ≡ pure_act b
     → walk_act ps before scope own a ≡ walk_act qs before scope own b
 act_alike ps qs wants before scope own a b same = walk_alike ps qs wants before scope own (subst (λ x. IsAct x a) same (act_is a)) (act_is b)

@@ -8,7 +8,7 @@ use Rattle.std.proofs.lemmas.List.{reverse-append}
 use Rattle.std.proofs.lemmas.List.Folds.{find-append, list_any-append}
 use Rattle.std.proofs.Math.Bool.{and-false, or-false}
 use Rattle.sc_base.specs.Texts.{same}
-use Rattle.sc_types.specs.Declarations.{Declaration, Scope, is_prefix, is_seen, declared_kind}
+use Rattle.sc_types.specs.Declarations.{Declaration, ScopePath, is_prefix, is_seen, declared_kind}
 use Rattle.sc_types.specs.Scopes.{Stack, Stands, kind_in}
 use Rattle.sc_types.proofs.Ways.{prefix_shorter, prefix_longer, prefix_append, prefix_step, prefix_beyond, other_way, same_longer, not_seen, not_same, later_place, later_way}
 
@@ -49,61 +49,61 @@ any_none p (d ∷ ds) h = ap (λ b. b || list_any p ds) h.0 ∙ any_none p ds h.
 
 -- ---- declarations beside a way and inside one
 
-pub record IsBeside (way : Scope) (d : Declaration) : Type 0 where
+pub record IsBeside (way : ScopePath) (d : Declaration) : Type 0 where
   pub beside : is_prefix way d.scope ≡ false
 
-pub record IsInside (way : Scope) (d : Declaration) : Type 0 where
+pub record IsInside (way : ScopePath) (d : Declaration) : Type 0 where
   pub inside : is_prefix way d.scope ≡ true
 
-abbrev pub AreBeside : Scope → List Declaration → Type 0
+abbrev pub AreBeside : ScopePath → List Declaration → Type 0
 AreBeside way ds = AllByRecursion (IsBeside way) ds
 
-abbrev pub AreInside : Scope → List Declaration → Type 0
+abbrev pub AreInside : ScopePath → List Declaration → Type 0
 AreInside way ds = AllByRecursion (IsInside way) ds
 
-pub beside_longer : (way more : Scope) (ds : List Declaration) → AreBeside way ds → AreBeside (way ++ more) ds
+pub beside_longer : (way more : ScopePath) (ds : List Declaration) → AreBeside way ds → AreBeside (way ++ more) ds
 beside_longer way more = every_weaker (IsBeside way) (IsBeside (way ++ more)) (λ d h. record { beside = prefix_longer way more d.scope h.beside })
 
-pub inside_shorter : (way more : Scope) (ds : List Declaration) → AreInside (way ++ more) ds → AreInside way ds
+pub inside_shorter : (way more : ScopePath) (ds : List Declaration) → AreInside (way ++ more) ds → AreInside way ds
 inside_shorter way more = every_weaker (IsInside (way ++ more)) (IsInside way) (λ d h. record { inside = prefix_shorter way more d.scope h.inside })
 
-pub beside_later : (place : Scope) (i j : ℕ) (ds : List Declaration) → i < j → AreInside (place ++ i ∷ []) ds → AreBeside (place ++ j ∷ []) ds
+pub beside_later : (place : ScopePath) (i j : ℕ) (ds : List Declaration) → i < j → AreInside (place ++ i ∷ []) ds → AreBeside (place ++ j ∷ []) ds
 beside_later place i j ds lt = every_weaker (IsInside (place ++ i ∷ [])) (IsBeside (place ++ j ∷ [])) (λ d h. record { beside = later_way place d.scope i j h.inside lt }) ds
 
 -- ---- the names that are seen
 
-pub record Sees (stack : Stack) (before : List Declaration) (place : Scope) : Type 0 where
+pub record Sees (stack : Stack) (before : List Declaration) (place : ScopePath) : Type 0 where
   pub seen : (name : List ℕ) → kind_in stack name ≡ declared_kind before place name
 
-pub sees : (stack : Stack) (before : List Declaration) (place : Scope) → Stands stack before place → Sees stack before place
+pub sees : (stack : Stack) (before : List Declaration) (place : ScopePath) → Stands stack before place → Sees stack before place
 sees stack before place h = record { seen = h.seen }
 
 -- the place further in sees the declaration where the place does
-pub record IsAlike (place inner : Scope) (d : Declaration) : Type 0 where
+pub record IsAlike (place inner : ScopePath) (d : Declaration) : Type 0 where
   pub alike : is_prefix d.scope inner ≡ is_prefix d.scope place
 
-abbrev pub AreAlike : Scope → Scope → List Declaration → Type 0
+abbrev pub AreAlike : ScopePath → ScopePath → List Declaration → Type 0
 AreAlike place inner ds = AllByRecursion (IsAlike place inner) ds
 
-pub alike_beside : (place : Scope) (i : ℕ) (more : Scope) (ds : List Declaration) → AreBeside (place ++ i ∷ []) ds → AreAlike place ((place ++ i ∷ []) ++ more) ds
+pub alike_beside : (place : ScopePath) (i : ℕ) (more : ScopePath) (ds : List Declaration) → AreBeside (place ++ i ∷ []) ds → AreAlike place ((place ++ i ∷ []) ++ more) ds
 alike_beside place i more = every_weaker (IsBeside (place ++ i ∷ [])) (IsAlike place ((place ++ i ∷ []) ++ more))
     (λ d h. record { alike = prefix_beyond d.scope (place ++ i ∷ []) more h.beside ∙ prefix_step d.scope place i h.beside })
 
-pub alike_other : (place : Scope) (i j k : ℕ) (ds : List Declaration) → j < k → AreInside ((place ++ i ∷ []) ++ j ∷ []) ds → AreAlike place ((place ++ i ∷ []) ++ k ∷ []) ds
+pub alike_other : (place : ScopePath) (i j k : ℕ) (ds : List Declaration) → j < k → AreInside ((place ++ i ∷ []) ++ j ∷ []) ds → AreAlike place ((place ++ i ∷ []) ++ k ∷ []) ds
 alike_other place i j k ds lt = every_weaker (IsInside ((place ++ i ∷ []) ++ j ∷ [])) (IsAlike place ((place ++ i ∷ []) ++ k ∷ []))
     (λ d h. record {
       alike = other_way (place ++ i ∷ []) d.scope j k h.inside lt ∙ sym (not_seen place d.scope i (prefix_shorter (place ++ i ∷ []) (j ∷ []) d.scope h.inside));
     }) ds
 
 -- further in, where nothing more is seen
-pub step_in : (stack : Stack) (before : List Declaration) (place inner : Scope) → AreAlike place inner before → Sees stack before place → Sees stack before inner
+pub step_in : (stack : Stack) (before : List Declaration) (place inner : ScopePath) → AreAlike place inner before → Sees stack before place → Sees stack before inner
 step_in stack before place inner same_sight h = record { seen = λ name. h.seen name ∙ sym (ap (option_map (λ (d : Declaration). d.kind)) (last_alike (is_seen inner name) (is_seen place name) before (sight name))) }
   where
     sight : (name : List ℕ) → AllByRecursion (λ d. is_seen inner name d ≡ is_seen place name d) before
     sight name = every_weaker (IsAlike place inner) (λ d. is_seen inner name d ≡ is_seen place name d) (λ d b. ap (λ s. same name d.name && s) b.alike) before same_sight
 
 -- a scope is entered where nothing is declared yet
-pub enter : (stack : Stack) (before : List Declaration) (place : Scope) → AreBeside place before → Sees stack before place → Stands ([] ∷ stack) before place
+pub enter : (stack : Stack) (before : List Declaration) (place : ScopePath) → AreBeside place before → Sees stack before place → Stands ([] ∷ stack) before place
 enter stack before place free h = record {
   is_open = omega arith;
   seen = h.seen;
@@ -112,7 +112,7 @@ enter stack before place free h = record {
 }
 
 -- what is declared further in is not seen at the place
-pub leave : (stack : Stack) (before ds : List Declaration) (place : Scope) (i : ℕ) → AreInside (place ++ i ∷ []) ds → Stands stack before place → Stands stack (before ++ ds) place
+pub leave : (stack : Stack) (before ds : List Declaration) (place : ScopePath) (i : ℕ) → AreInside (place ++ i ∷ []) ds → Stands stack before place → Stands stack (before ++ ds) place
 leave stack before ds place i gone h = record {
   is_open = h.is_open;
   seen = λ name. h.seen name ∙ sym (ap (λ all. option_map (λ (d : Declaration). d.kind) (find (is_seen place name) all)) (reverse-append before ds)
@@ -134,27 +134,27 @@ leave stack before ds place i gone h = record {
 -- ---- room for the statements to come
 
 -- nothing is declared in the scopes of the statements from the i-th on
-pub record HasRoom (place : Scope) (i : ℕ) (before : List Declaration) : Type 0 where
+pub record HasRoom (place : ScopePath) (i : ℕ) (before : List Declaration) : Type 0 where
   pub free : (j : ℕ) → i ≤ j → AreBeside (place ++ j ∷ []) before
 
 -- in the place itself or in the scope of its i-th statement
-pub record IsMade (place : Scope) (i : ℕ) (d : Declaration) : Type 0 where
+pub record IsMade (place : ScopePath) (i : ℕ) (d : Declaration) : Type 0 where
   pub made : (d.scope ≡ place) ⊎ (is_prefix (place ++ i ∷ []) d.scope ≡ true)
 
-pub made_here : (place : Scope) (i : ℕ) (d : Declaration) → d.scope ≡ place → IsMade place i d
+pub made_here : (place : ScopePath) (i : ℕ) (d : Declaration) → d.scope ≡ place → IsMade place i d
 made_here place i d e = record { made = inl e }
 
-pub made_within : (place : Scope) (i : ℕ) (ds : List Declaration) → AreInside (place ++ i ∷ []) ds → AllByRecursion (IsMade place i) ds
+pub made_within : (place : ScopePath) (i : ℕ) (ds : List Declaration) → AreInside (place ++ i ∷ []) ds → AllByRecursion (IsMade place i) ds
 made_within place i = every_weaker (IsInside (place ++ i ∷ [])) (IsMade place i) (λ d h. record { made = inr h.inside })
 
-pub made_inside : (place : Scope) (i : ℕ) (ds : List Declaration) → AllByRecursion (IsMade place i) ds → AreInside place ds
+pub made_inside : (place : ScopePath) (i : ℕ) (ds : List Declaration) → AllByRecursion (IsMade place i) ds → AreInside place ds
 made_inside place i = every_weaker (IsMade place i) (IsInside place) (λ d h. by d h.made)
   where
     by : (d : Declaration) → (d.scope ≡ place) ⊎ (is_prefix (place ++ i ∷ []) d.scope ≡ true) → IsInside place d
     by d (inl e) = record { inside = ap (is_prefix place) (e ∙ sym (append-nil place)) ∙ prefix_append place [] }
     by d (inr e) = record { inside = prefix_shorter place (i ∷ []) d.scope e }
 
-pub room_more : (place : Scope) (i : ℕ) (before ds : List Declaration) → HasRoom place i before → AllByRecursion (IsMade place i) ds → HasRoom place (suc i) (before ++ ds)
+pub room_more : (place : ScopePath) (i : ℕ) (before ds : List Declaration) → HasRoom place i before → AllByRecursion (IsMade place i) ds → HasRoom place (suc i) (before ++ ds)
 room_more place i before ds h made = record {
   free = λ j le. every_append (IsBeside (place ++ j ∷ [])) before ds (h.free j (omega arith))
       (every_weaker (IsMade place i) (IsBeside (place ++ j ∷ [])) (λ d m. by j le d m.made) ds made);
@@ -165,5 +165,5 @@ room_more place i before ds h made = record {
     by j le d (inr e) = record { beside = later_way place d.scope i j e (omega arith) }
 
 -- where nothing is declared in a scope, all its statements have room
-pub room_within : (place : Scope) (before : List Declaration) → AreBeside place before → HasRoom place 0 before
+pub room_within : (place : ScopePath) (before : List Declaration) → AreBeside place before → HasRoom place 0 before
 room_within place before free = record { free = λ j le. beside_longer place (j ∷ []) before free }

@@ -3,12 +3,12 @@ use Rattle.std.proofs.Common.{◌≡◌, ℕ, suc, ◌+◌, ◌<◌, Bool, cond,
 use Rattle.std.proofs.lemmas.List.{length-take-le}
 use Rattle.std.specs.List.{list_any}
 use Rattle.std.proofs.Math.Bool.{and-true, and-false}
-use Rattle.sc_syntax.specs.declared.Kind.{Kind}
+use Rattle.sc_syntax.specs.declared.NameKind.{NameKind}
 use Rattle.sc_base.specs.Texts.{same}
 use Rattle.sc_syntax.specs.declared.Param.{Param}
 use Rattle.sc_syntax.specs.declared.Sort.{Sort}
 use Rattle.sc_syntax.specs.declared.Sort.TheVariants as sort
-use Rattle.sc_syntax.specs.Kind.{Kinds}
+use Rattle.sc_syntax.specs.NameKind.{Kinds}
 use Rattle.sc_types.specs.declared.fault.TypeFault.{TypeFault}
 use Rattle.sc_types.specs.Checks.{first_fault}
 use Rattle.sc_types.specs.Declarations.{Declaration, declared_kind, or_pi, is_new}
@@ -51,7 +51,7 @@ next_int all i p old new within is h notes = record {
 
 -- ---- what names mean in a length
 
-pub or_later_int : (later : List Param) (name : List ℕ) (k : Option Kind) → or_int (list_any (is_int_named name) later) k ≡ or_later later name k
+pub or_later_int : (later : List Param) (name : List ℕ) (k : Option NameKind) → or_int (list_any (is_int_named name) later) k ≡ or_later later name k
 or_later_int later name (Some k) = refl
 or_later_int later name None = refl
 
@@ -62,7 +62,7 @@ same_length_names stack before last all earlier later p h finds is = λ j name. 
   where
     each : (name : List ℕ) → length_names last (length earlier) stack name ≡ length_kinds before later name
     each name =
-        ap (λ (k : Option Kind). or_pi name (or_int (is_past (length earlier) (number_under last name)) k)) (h.seen name)
+        ap (λ (k : Option NameKind). or_pi name (or_int (is_past (length earlier) (number_under last name)) k)) (h.seen name)
         ∙ ap (λ (r : Option ℕ). or_pi name (or_int (is_past (length earlier) r) (declared_kind before [] name)))
         (finds.each name ∙ ap (last_at (is_int_named name)) is)
         ∙ ap (λ (b : Bool). or_pi name (or_int b (declared_kind before [] name))) (sym (is_later (is_int_named name) earlier p later))

@@ -5,14 +5,14 @@ use mathlib.Core.List.{reverse}
 use Rattle.std.specs.Option.{option_or}
 use Rattle.sc_base.specs.NameMaps.{value_under}
 use Rattle.sc_base.specs.Texts.{same}
-use Rattle.sc_syntax.specs.declared.Kind.{Kind}
+use Rattle.sc_syntax.specs.declared.NameKind.{NameKind}
 use Rattle.sc_types.specs.Scopes.{Known, known_entry, kind_here, kind_in}
 
-pub kind_entries : (name : List ℕ) (es : List (List ℕ × Kind)) → value_under es name ≡ kind_here (map known_entry es) name
+pub kind_entries : (name : List ℕ) (es : List (List ℕ × NameKind)) → value_under es name ≡ kind_here (map known_entry es) name
 kind_entries name [] = refl
 kind_entries name (e ∷ es) = ap (cond (same name e.0) (Some e.1)) (kind_entries name es)
 
-pub map-push : (es : List (List ℕ × Kind)) (e : List ℕ × Kind) → map known_entry (es ++ e ∷ []) ≡ map known_entry es ++ known_entry e ∷ []
+pub map-push : (es : List (List ℕ × NameKind)) (e : List ℕ × NameKind) → map known_entry (es ++ e ∷ []) ≡ map known_entry es ++ known_entry e ∷ []
 map-push [] e = refl
 map-push (x ∷ es) e = ap (λ l. known_entry x ∷ l) (map-push es e)
 
@@ -29,7 +29,7 @@ pub kind_beyond : (xs : List (List Known)) (i : ℕ) (d : List Known) (name : Li
 kind_beyond xs i d name within none =
     ap (λ stack. kind_in stack name) (reverse_more xs i d within) ∙ ap (λ here. option_or here (kind_in (reverse (take i xs)) name)) none
 
-pub kind_there : (xs : List (List Known)) (i : ℕ) (d : List Known) (name : List ℕ) (kind : Kind) → i < length xs → kind_here (get_or xs i d) name ≡ Some kind
+pub kind_there : (xs : List (List Known)) (i : ℕ) (d : List Known) (name : List ℕ) (kind : NameKind) → i < length xs → kind_here (get_or xs i d) name ≡ Some kind
     → kind_in (reverse (take (i + 1) xs)) name ≡ Some kind
 kind_there xs i d name kind within some =
     ap (λ stack. kind_in stack name) (reverse_more xs i d within) ∙ ap (λ here. option_or here (kind_in (reverse (take i xs)) name)) some

@@ -4,8 +4,8 @@ use Rattle.std.specs.Prelude.{is_some, IfOk}
 use Rattle.std.specs.Result.{result_err}
 use Rattle.sc_base.specs.declared.Place.{Place}
 use Rattle.sc_base.specs.declared.Class.TheVariants.{Q, C}
-use Rattle.sc_syntax.specs.declared.Kind.{Kind}
-use Rattle.sc_syntax.specs.declared.Kind.TheVariants as kind
+use Rattle.sc_syntax.specs.declared.NameKind.{NameKind}
+use Rattle.sc_syntax.specs.declared.NameKind.TheVariants as kind
 use Rattle.sc_syntax.specs.declared.NumSort.{NumSort}
 use Rattle.sc_syntax.specs.declared.NumSort.TheVariants as num
 use Rattle.sc_syntax.specs.declared.Expr.{Expr}
@@ -15,7 +15,7 @@ use Rattle.sc_syntax.proofs.Rows.{over_links, links_of}
 use Rattle.std.specs.declared.boxed.Box.{Box}
 use Rattle.std.specs.declared.vec.Vec.{Vec}
 use Rattle.std.specs.declared.alloc.Global.{Global}
-use Rattle.sc_syntax.specs.Kind.{Kinds, wider, number_kind, kind_of_operation, kind_of_unary, kind_of_node, kind_of_row, kind_of_expr, ◌>>=◌ as ◌=>>◌}
+use Rattle.sc_syntax.specs.NameKind.{Kinds, wider, number_kind, kind_of_operation, kind_of_unary, kind_of_node, kind_of_row, kind_of_expr, ◌>>=◌ as ◌=>>◌}
 use Rattle.sc_types.specs.declared.fault.TypeFault.{TypeFault}
 use Rattle.sc_types.specs.declared.fault.TypeFault.TheVariants.{WrongKind}
 use Rattle.sc_types.specs.Checks.{Check, check, first_fault}
@@ -52,7 +52,7 @@ tells_more (Ok a) cs k go ds next h g =
     tells_after (Err f) cs ds k n t = fault_append cs ds ∙ ap (λ (x : Option TypeFault). or_else x (first_fault ds)) n ∙ t
 tells_more (Err f) cs k go ds next h g = fault_append cs (ds k) ∙ ap (λ (x : Option TypeFault). or_else x (first_fault (ds k))) h
 
-tells_name : (at : Place) (k : Option Kind) → Tells (sort_of_name at k) (is_number at k ∷ []) (number_kind k)
+tells_name : (at : Place) (k : Option NameKind) → Tells (sort_of_name at k) (is_number at k ∷ []) (number_kind k)
 tells_name at None = refl
 tells_name at (Some (kind.Number s)) = (refl, refl)
 tells_name at (Some (kind.One C)) = refl
@@ -60,7 +60,7 @@ tells_name at (Some (kind.Many C)) = refl
 tells_name at (Some (kind.One Q)) = refl
 tells_name at (Some (kind.Many Q)) = refl
 
-tells_indexed : (at : Place) (k : Option Kind) → first_fault (is_indexed at k ∷ []) ≡ Some (fault_of_indexed at k)
+tells_indexed : (at : Place) (k : Option NameKind) → first_fault (is_indexed at k ∷ []) ≡ Some (fault_of_indexed at k)
 tells_indexed at None = refl
 tells_indexed at (Some (kind.Number s)) = refl
 tells_indexed at (Some (kind.One C)) = refl

@@ -5,8 +5,8 @@ use Rattle.std.specs.List.{list_any}
 use Rattle.sc_base.specs.Texts.{same}
 use Rattle.sc_base.specs.declared.Class.{Class}
 use Rattle.sc_base.specs.declared.Class.TheVariants.{Q, C}
-use Rattle.sc_syntax.specs.declared.Kind.{Kind}
-use Rattle.sc_syntax.specs.declared.Kind.TheVariants as kind
+use Rattle.sc_syntax.specs.declared.NameKind.{NameKind}
+use Rattle.sc_syntax.specs.declared.NameKind.TheVariants as kind
 use Rattle.sc_syntax.specs.declared.NumSort.{NumSort}
 use Rattle.sc_syntax.specs.declared.NumSort.TheVariants as num
 use Rattle.sc_syntax.specs.declared.BinOp.{BinOp}
@@ -16,7 +16,7 @@ use Rattle.sc_syntax.specs.declared.Callee.{Callee}
 use Rattle.sc_syntax.specs.declared.Callee.TheVariants as callee
 use Rattle.sc_syntax.specs.Alike.{PureExpr, PureNode, PureNamed, PureAct, PureHeld, PureStmts, wires, numbers, set, measure, call, if_else, while_loop, for_loop, block, empty, absent, held, no_stmts, stmt, in_row, PureSort, PureParam, PurePart, of_module, of_words, pure_source}
 use Rattle.sc_syntax.specs.Formed.{IsMeasuring}
-use Rattle.sc_syntax.specs.Kind.{Kinds, kind_of, kind_of_operation}
+use Rattle.sc_syntax.specs.NameKind.{Kinds, kind_of, kind_of_operation}
 use Rattle.sc_word.specs.Typed.{TypedWords, TypesPureFn}
 use Rattle.sc_types.specs.declared.want.Want.{Want}
 use Rattle.sc_types.specs.declared.want.Want.TheVariants.{OneWire, ManyWires, Word, AnInt, ADouble}
@@ -43,7 +43,7 @@ IfThere P None = Unit {0}
 IfThere P (Some e) = P e
 
 -- the name is known, and what it stands for is suited
-abbrev pub IsSuited : (Kind → Bool) → Option Kind → Type 0
+abbrev pub IsSuited : (NameKind → Bool) → Option NameKind → Type 0
 IsSuited suited None = ⊥
 IsSuited suited (Some k) = suited k ≡ true
 
@@ -88,10 +88,10 @@ IsCall taken ks (callee.Named t) args = (wants : List Want) × (taken t ≡ Some
 abbrev pub IsNew : List Known → Name → Type 0
 IsNew here name = kind_here here name.text ≡ None
 
-abbrev pub with_name : List Known → Name → Kind → List Known
+abbrev pub with_name : List Known → Name → NameKind → List Known
 with_name here name k = here ++ known name.text k ∷ []
 
-abbrev pub kind_of_wire : Class → Option PureExpr → Kind
+abbrev pub kind_of_wire : Class → Option PureExpr → NameKind
 kind_of_wire c None = kind.One c
 kind_of_wire c (Some e) = kind.Many c
 
@@ -184,7 +184,7 @@ abbrev mutual
 
 -- ---- parameters of a module
 
-abbrev pub kind_of_sort : PureSort → Kind
+abbrev pub kind_of_sort : PureSort → NameKind
 kind_of_sort (PureSort.one c) = kind.One c
 kind_of_sort (PureSort.many c e) = kind.Many c
 kind_of_sort PureSort.int = kind.Number num.Int

@@ -2,19 +2,19 @@
 use Rattle.std.specs.Prelude.{Bool, true, false, is_some, Option, Some, None, List, [], ◌∷◌, ◌++◌}
 use Rattle.sc_base.specs.declared.Place.{Place}
 use Rattle.sc_base.specs.declared.Class.TheVariants.{Q, C}
-use Rattle.sc_syntax.specs.declared.Kind.{Kind}
-use Rattle.sc_syntax.specs.declared.Kind.TheVariants.{Number, One, Many}
+use Rattle.sc_syntax.specs.declared.NameKind.{NameKind}
+use Rattle.sc_syntax.specs.declared.NameKind.TheVariants.{Number, One, Many}
 use Rattle.sc_syntax.specs.declared.BinOp.{BinOp}
 use Rattle.sc_syntax.specs.declared.NumSort.{NumSort}
 use Rattle.sc_syntax.specs.declared.NumSort.TheVariants as num
 use Rattle.sc_syntax.specs.declared.Expr.{Expr}
 use Rattle.sc_syntax.specs.declared.Node.{Node, Int, Decimal, Name, Index', Paren', Unary', Chain', Pick', Row_of-Link, end_of-Link, more_of-Link}
-use Rattle.sc_syntax.specs.Kind.{Kinds, ◌>>=◌, kind_of_operation, kind_of_node, kind_of_expr}
+use Rattle.sc_syntax.specs.NameKind.{Kinds, ◌>>=◌, kind_of_operation, kind_of_node, kind_of_expr}
 use Rattle.sc_types.specs.declared.fault.TypeFault.TheVariants.{UnknownName, WrongKind, MeasuredUse}
 use Rattle.sc_types.specs.Checks.{Check, check}
 
 -- a name stands for a number
-abbrev pub is_number : Place → Option Kind → Check
+abbrev pub is_number : Place → Option NameKind → Check
 is_number at None = check false (UnknownName at)
 is_number at (Some (Number sort)) = check true (WrongKind at)
 is_number at (Some (One C)) = check false (MeasuredUse at)
@@ -23,7 +23,7 @@ is_number at (Some (One Q)) = check false (WrongKind at)
 is_number at (Some (Many Q)) = check false (WrongKind at)
 
 -- an indexed name is no number
-abbrev pub is_indexed : Place → Option Kind → Check
+abbrev pub is_indexed : Place → Option NameKind → Check
 is_indexed at None = check false (UnknownName at)
 is_indexed at (Some (One C)) = check false (MeasuredUse at)
 is_indexed at (Some (Many C)) = check false (MeasuredUse at)

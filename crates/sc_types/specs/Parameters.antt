@@ -1,13 +1,13 @@
 -- The parameters of a module over the open scopes.
 use Rattle.std.specs.Prelude.{◌≡◌, ℕ, suc, Bool, if◌then◌else◌, Option, Some, None, Result, Ok, List, [], ◌∷◌}
 use Rattle.sc_base.specs.NameMaps.{with_value}
-use Rattle.sc_syntax.specs.declared.Kind.{Kind}
-use Rattle.sc_syntax.specs.declared.Kind.TheVariants as kind
+use Rattle.sc_syntax.specs.declared.NameKind.{NameKind}
+use Rattle.sc_syntax.specs.declared.NameKind.TheVariants as kind
 use Rattle.sc_syntax.specs.declared.NumSort.TheVariants as num
 use Rattle.sc_syntax.specs.declared.Param.{Param}
 use Rattle.sc_syntax.specs.declared.Sort.{Sort}
 use Rattle.sc_syntax.specs.declared.Sort.TheVariants as sort
-use Rattle.sc_syntax.specs.Kind.{Kinds}
+use Rattle.sc_syntax.specs.NameKind.{Kinds}
 use Rattle.sc_types.specs.declared.fault.TypeFault.{TypeFault}
 use Rattle.sc_types.specs.Checks.{first_fault}
 use Rattle.sc_types.specs.Declarations.{or_pi}
@@ -30,7 +30,7 @@ noted table p i = by p.sort
     by sort.Int = with_value table p.name.text i
     by _ = table
 
-abbrev pub or_int : Bool → Option Kind → Option Kind
+abbrev pub or_int : Bool → Option NameKind → Option NameKind
 or_int later (Some k) = Some k
 or_int later None = if later then Some (kind.Number num.Int) else None
 

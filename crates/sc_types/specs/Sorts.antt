@@ -2,14 +2,14 @@
 use Rattle.std.specs.Prelude.{Option, Some, None, List, [], ◌∷◌, Result, Ok, Err}
 use Rattle.sc_base.specs.declared.Place.{Place}
 use Rattle.sc_base.specs.declared.Class.TheVariants.{Q, C}
-use Rattle.sc_syntax.specs.declared.Kind.{Kind}
-use Rattle.sc_syntax.specs.declared.Kind.TheVariants as kind
+use Rattle.sc_syntax.specs.declared.NameKind.{NameKind}
+use Rattle.sc_syntax.specs.declared.NameKind.TheVariants as kind
 use Rattle.sc_syntax.specs.declared.NumSort.{NumSort}
 use Rattle.sc_syntax.specs.declared.NumSort.TheVariants as num
 use Rattle.sc_syntax.specs.declared.Link.{Link}
 use Rattle.sc_syntax.specs.declared.Expr.{Expr}
 use Rattle.sc_syntax.specs.declared.Node.{Node, Int, Decimal, Name, Index', Paren', Unary', Chain', Pick', Row_of-Link, end_of-Link, more_of-Link}
-use Rattle.sc_syntax.specs.Kind.{Kinds, wider, kind_of_operation, kind_of_unary}
+use Rattle.sc_syntax.specs.NameKind.{Kinds, wider, kind_of_operation, kind_of_unary}
 use Rattle.sc_types.specs.declared.fault.TypeFault.{TypeFault}
 use Rattle.sc_types.specs.declared.fault.TypeFault.TheVariants.{UnknownName, WrongKind, MeasuredUse}
 
@@ -18,7 +18,7 @@ abbrev pub ◌>>=◌ : {A B : Type 0} → Result A TypeFault → (A → Result B
 Ok x >>= f = f x
 Err e >>= f = Err e
 
-abbrev pub sort_of_name : Place → Option Kind → Result NumSort TypeFault
+abbrev pub sort_of_name : Place → Option NameKind → Result NumSort TypeFault
 sort_of_name at None = Err (UnknownName at)
 sort_of_name at (Some (kind.Number s)) = Ok s
 sort_of_name at (Some (kind.One C)) = Err (MeasuredUse at)
@@ -26,7 +26,7 @@ sort_of_name at (Some (kind.Many C)) = Err (MeasuredUse at)
 sort_of_name at (Some (kind.One Q)) = Err (WrongKind at)
 sort_of_name at (Some (kind.Many Q)) = Err (WrongKind at)
 
-abbrev pub fault_of_indexed : Place → Option Kind → TypeFault
+abbrev pub fault_of_indexed : Place → Option NameKind → TypeFault
 fault_of_indexed at None = UnknownName at
 fault_of_indexed at (Some (kind.One C)) = MeasuredUse at
 fault_of_indexed at (Some (kind.Many C)) = MeasuredUse at

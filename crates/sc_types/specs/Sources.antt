@@ -2,8 +2,8 @@
 use Rattle.std.specs.Prelude.{ℕ, suc, Bool, true, false, not, ◌&&◌, nat_eq, if◌then◌else◌, Option, Some, None, List, [], ◌∷◌, ◌++◌, length, map, codes}
 use Rattle.std.specs.List.{list_any}
 use Rattle.sc_base.specs.Texts.{same}
-use Rattle.sc_syntax.specs.declared.Kind.{Kind}
-use Rattle.sc_syntax.specs.declared.Kind.TheVariants as kind
+use Rattle.sc_syntax.specs.declared.NameKind.{NameKind}
+use Rattle.sc_syntax.specs.declared.NameKind.TheVariants as kind
 use Rattle.sc_syntax.specs.declared.NumSort.TheVariants as num
 use Rattle.sc_syntax.specs.declared.Name.{Name}
 use Rattle.sc_syntax.specs.declared.Stmt.{Stmt}
@@ -15,7 +15,7 @@ use Rattle.sc_syntax.specs.declared.Param.{Param}
 use Rattle.sc_syntax.specs.declared.Sort.{Sort}
 use Rattle.sc_syntax.specs.declared.Sort.TheVariants as sort
 use Rattle.sc_syntax.specs.declared.WordFn.{WordFn}
-use Rattle.sc_syntax.specs.Kind.{Kinds}
+use Rattle.sc_syntax.specs.NameKind.{Kinds}
 use Rattle.sc_word.specs.declared.WordFault.{WordFault}
 use Rattle.sc_word.specs.declared.WordFault.TheVariants as word
 use Rattle.sc_word.specs.Checks as words
@@ -36,7 +36,7 @@ is_int_named name p = same name p.name.text && is_int_sort p.sort
     is_int_sort sort.Int = true
     is_int_sort _ = false
 
-abbrev pub or_later : List Param → List ℕ → Option Kind → Option Kind
+abbrev pub or_later : List Param → List ℕ → Option NameKind → Option NameKind
 or_later later name (Some k) = Some k
 or_later later name None = if list_any (is_int_named name) later then Some (kind.Number num.Int) else None
 
@@ -44,7 +44,7 @@ or_later later name None = if list_any (is_int_named name) later then Some (kind
 abbrev pub length_kinds : List Declaration → List Param → Kinds
 length_kinds before later name = or_pi name (or_later later name (declared_kind before [] name))
 
-abbrev pub param_kind : Sort → Kind
+abbrev pub param_kind : Sort → NameKind
 param_kind (sort.One c) = kind.One c
 param_kind (sort.Many c e) = kind.Many c
 param_kind sort.Int = kind.Number num.Int

@@ -4,8 +4,8 @@ use Rattle.sc_base.specs.Texts.{same}
 use Rattle.sc_base.specs.declared.Place.{Place}
 use Rattle.sc_base.specs.declared.Class.{Class}
 use Rattle.sc_base.specs.declared.Class.TheVariants.{Q, C}
-use Rattle.sc_syntax.specs.declared.Kind.{Kind}
-use Rattle.sc_syntax.specs.declared.Kind.TheVariants as kind
+use Rattle.sc_syntax.specs.declared.NameKind.{NameKind}
+use Rattle.sc_syntax.specs.declared.NameKind.TheVariants as kind
 use Rattle.sc_syntax.specs.declared.NumSort.{NumSort}
 use Rattle.sc_syntax.specs.declared.NumSort.TheVariants as num
 use Rattle.sc_syntax.specs.declared.BinOp.{BinOp}
@@ -25,10 +25,10 @@ use Rattle.sc_syntax.specs.declared.Part.{Part}
 use Rattle.sc_syntax.specs.declared.Part.TheVariants as part
 use Rattle.sc_syntax.specs.declared.Sort.{Sort}
 use Rattle.sc_syntax.specs.declared.Sort.TheVariants as sort
-use Rattle.sc_syntax.specs.Kind.{Kinds, ◌>>=◌, kind_of_expr, kind_of_operation}
+use Rattle.sc_syntax.specs.NameKind.{Kinds, ◌>>=◌, kind_of_expr, kind_of_operation}
 use Rattle.sc_types.specs.declared.fault.TypeFault.TheVariants.{UnknownName, WrongKind, WrongCount}
 use Rattle.sc_types.specs.Checks.{Check, check}
-use Rattle.sc_types.specs.Declarations.{Declaration, Scope, kinds, with_pi, declared_kind, is_pi, is_new}
+use Rattle.sc_types.specs.Declarations.{Declaration, ScopePath, kinds, with_pi, declared_kind, is_pi, is_new}
 use Rattle.sc_types.specs.Numbers.{number_checks, int_checks, may_operate}
 use Rattle.sc_types.specs.declared.want.Want.{Want}
 use Rattle.sc_types.specs.declared.want.Want.TheVariants.{OneWire, ManyWires, Word, AnInt, ADouble}
@@ -54,11 +54,11 @@ abbrev pub optional : (Expr → List Check) → Option Expr → List Check
 optional checks None = []
 optional checks (Some e) = checks e
 
-abbrev pub wire_kind : Class → Option Expr → Kind
+abbrev pub wire_kind : Class → Option Expr → NameKind
 wire_kind c None = kind.One c
 wire_kind c (Some e) = kind.Many c
 
-abbrev pub walk_decl : List Declaration → Scope → Class → Decl → Walk
+abbrev pub walk_decl : List Declaration → ScopePath → Class → Decl → Walk
 walk_decl before scope c d = record {
   checks = optional (int_checks (kinds before scope)) d.size ++ is_new before scope d.name ∷ [];
   declares = record { name = d.name.text; kind = wire_kind c d.size; scope = scope } ∷ [];
@@ -69,29 +69,29 @@ abbrev pub start_checks : Kinds → NumSort → Expr → List Check
 start_checks ks num.Int e = int_checks ks e
 start_checks ks num.Double e = number_checks ks e
 
-abbrev pub walk_init : List Declaration → Scope → NumSort → Init → Walk
+abbrev pub walk_init : List Declaration → ScopePath → NumSort → Init → Walk
 walk_init before scope s d = record {
   checks = optional (start_checks (kinds before scope) s) d.start ++ is_new before scope d.name ∷ [];
   declares = record { name = d.name.text; kind = kind.Number s; scope = scope } ∷ [];
 }
 
-abbrev pub walk_decls : List Declaration → Scope → Class → List Decl → Walk
+abbrev pub walk_decls : List Declaration → ScopePath → Class → List Decl → Walk
 walk_decls before scope c [] = only []
 walk_decls before scope c (d ∷ ds) = in_turn before (walk_decl before scope c d) (λ known. walk_decls known scope c ds)
 
-abbrev pub walk_inits : List Declaration → Scope → NumSort → List Init → Walk
+abbrev pub walk_inits : List Declaration → ScopePath → NumSort → List Init → Walk
 walk_inits before scope s [] = only []
 walk_inits before scope s (d ∷ ds) = in_turn before (walk_init before scope s d) (λ known. walk_inits known scope s ds)
 
 -- ---- a `Set`: the name and that it may be set, then the expression, then that the kinds fit
 
 -- a wire is not set by a number, and `M_PI` is not set where no scope declares it
-abbrev pub may_set : Place → Bool → Option Kind → Check
+abbrev pub may_set : Place → Bool → Option NameKind → Check
 may_set at pi None = if pi then check false (WrongKind at) else check false (UnknownName at)
 may_set at pi (Some (kind.Number s)) = check true (WrongKind at)
 may_set at pi (Some _) = check false (WrongKind at)
 
-abbrev pub number_of : Option Kind → Option NumSort
+abbrev pub number_of : Option NameKind → Option NumSort
 number_of (Some (kind.Number s)) = Some s
 number_of _ = None
 
@@ -166,7 +166,7 @@ call_checks parts ks c = by_callee c.callee
 -- ---- statements; `scope` is the scope that they stand in, and `own` a scope for the statement's own parts
 
 abbrev mutual
-  pub walk_act : List Part → List Declaration → Scope → Scope → Act → Walk
+  pub walk_act : List Part → List Declaration → ScopePath → ScopePath → Act → Walk
   walk_act parts before scope own (Wires c ds) = walk_decls before scope c ds
   walk_act parts before scope own (Numbers s ds) = walk_inits before scope s ds
   walk_act parts before scope own (Set s) = only (set_checks (declared_kind before scope) s)
@@ -188,12 +188,12 @@ abbrev mutual
   walk_act parts before scope own (Block' shape row) = walk_row parts before own 0 row
   walk_act parts before scope own Empty = only []
 
-  pub walk_held : List Part → List Declaration → Scope → Scope → Held-Act-If-2 → Walk
+  pub walk_held : List Part → List Declaration → ScopePath → ScopePath → Held-Act-If-2 → Walk
   walk_held parts before scope own None' = only []
   walk_held parts before scope own (Some' b p act) = walk_act parts before scope own act
 
   -- statements from the i-th on
-  pub walk_row : {m : _} → List Part → List Declaration → Scope → ℕ → Row_of-Stmt m → Walk
+  pub walk_row : {m : _} → List Part → List Declaration → ScopePath → ℕ → Row_of-Stmt m → Walk
   walk_row parts before scope i end_of-Stmt = only []
   walk_row parts before scope i (more_of-Stmt place act rest) =
       in_turn before (walk_act parts before scope (scope ++ i ∷ []) act) (λ known. walk_row parts known scope (suc i) rest)

@@ -3,7 +3,7 @@ use Rattle.std.specs.Prelude.{Option, Some, None, Result, Ok, Err, List, [], ◌
 use Rattle.std.specs.declared.alloc.Global.{Global}
 use Rattle.std.specs.declared.boxed.Box.{Box}
 use Rattle.sc_base.specs.declared.Class.{Class}
-use Rattle.sc_syntax.specs.declared.Kind.TheVariants as kind
+use Rattle.sc_syntax.specs.declared.NameKind.TheVariants as kind
 use Rattle.sc_syntax.specs.declared.NumSort.{NumSort}
 use Rattle.sc_syntax.specs.declared.Decl.{Decl}
 use Rattle.sc_syntax.specs.declared.Init.{Init}

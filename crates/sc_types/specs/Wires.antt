@@ -5,12 +5,12 @@ use Rattle.sc_base.specs.declared.Class.{Class}
 use Rattle.sc_base.specs.declared.Class.TheVariants.{Q, C}
 use Rattle.sc_base.specs.declared.GateName.{GateName}
 use Rattle.sc_base.specs.declared.GateName.TheVariants as gate
-use Rattle.sc_syntax.specs.declared.Kind.{Kind}
-use Rattle.sc_syntax.specs.declared.Kind.TheVariants as kind
+use Rattle.sc_syntax.specs.declared.NameKind.{NameKind}
+use Rattle.sc_syntax.specs.declared.NameKind.TheVariants as kind
 use Rattle.sc_syntax.specs.declared.Expr.{Expr}
 use Rattle.sc_syntax.specs.declared.Operand.{Operand}
 use Rattle.sc_syntax.specs.declared.Node.{Node, Name, Index'}
-use Rattle.sc_syntax.specs.Kind.{Kinds}
+use Rattle.sc_syntax.specs.NameKind.{Kinds}
 use Rattle.sc_types.specs.declared.want.Want.{Want}
 use Rattle.sc_types.specs.declared.want.Want.TheVariants.{OneWire, ManyWires, Word, AnInt, ADouble}
 use Rattle.sc_types.specs.declared.fault.TypeFault.TheVariants.{UnknownName, WrongKind}
@@ -23,7 +23,7 @@ same_class C C = true
 same_class _ _ = false
 
 -- a name of this kind, without an index, is what is wanted
-abbrev pub suits : Want → Kind → Bool
+abbrev pub suits : Want → NameKind → Bool
 suits (OneWire c) (kind.One d) = same_class c d
 suits (ManyWires c) (kind.Many d) = same_class c d
 suits Word (kind.One d) = same_class Q d
@@ -31,13 +31,13 @@ suits Word (kind.Many d) = same_class Q d
 suits _ _ = false
 
 -- one element of a name of this kind is what is wanted: what has no length is not indexed
-abbrev pub suits_indexed : Want → Kind → Bool
+abbrev pub suits_indexed : Want → NameKind → Bool
 suits_indexed (OneWire c) (kind.Many d) = same_class c d
 suits_indexed Word (kind.Many d) = same_class Q d
 suits_indexed _ _ = false
 
 -- a name is known, and is what is wanted
-abbrev pub is_wire : (Kind → Bool) → Place → Option Kind → Check
+abbrev pub is_wire : (NameKind → Bool) → Place → Option NameKind → Check
 is_wire suited at None = check false (UnknownName at)
 is_wire suited at (Some k) = check (suited k) (WrongKind at)
 

@@ -11,7 +11,7 @@ use crate::fault::TypeFault;
 use crate::scopes::Scopes;
 use crate::wires::{int, number};
 use sc_base::Class;
-use sc_syntax::{Decl, Expr, Init, Kind, NumSort};
+use sc_syntax::{Decl, Expr, Init, NameKind, NumSort};
 
 fn size(scopes: &Scopes, size: &Option<Expr>) -> Result<(), TypeFault>
     ensures { result_err result ≡ first_fault (optional (int_checks (kinds_in scopes.now)) size.now) }
@@ -38,12 +38,12 @@ fn start(scopes: &Scopes, sort: NumSort, start: &Option<Expr>) -> Result<(), Typ
     Ok(())
 }
 
-fn wire_kind(class: Class, decl: &Decl) -> Kind
+fn wire_kind(class: Class, decl: &Decl) -> NameKind
     ensures { result ≡ kind_of_wire class decl.now.size }
 {
     match &decl.size {
-        None => Kind::One(class),
-        Some(_) => Kind::Many(class),
+        None => NameKind::One(class),
+        Some(_) => NameKind::Many(class),
     }
 }
 
@@ -73,7 +73,7 @@ fn init(scopes: &mut Scopes, sort: NumSort, init: &Init) -> Result<(), TypeFault
     ensures err { IfErr result (λ f. f ≢ TypeFault.Memory → init_on sort scopes.old init.now ≡ Err f) }
 {
     start(scopes, sort, &init.start)?;
-    scopes.declare(&init.name, Kind::Number(sort))?;
+    scopes.declare(&init.name, NameKind::Number(sort))?;
     Ok(())
 }
 

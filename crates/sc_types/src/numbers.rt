@@ -1,30 +1,30 @@
 //! Expressions of numbers.
 ghost use Rattle.std.specs.Prelude.{◌≡◌};
-ghost use Rattle.sc_syntax.specs.Kind.{kind_of_operation, kind_of_unary, wider as wider_of};
+ghost use Rattle.sc_syntax.specs.NameKind.{kind_of_operation, kind_of_unary, wider as wider_of};
 ghost use Rattle.sc_types.specs.Sorts.{sort_of, sort_of_name, fault_of_indexed, or_wrong, or_not_int, int_of};
 
 use crate::fault::TypeFault;
 use crate::names::Names;
 use sc_base::{Class, Place};
-use sc_syntax::{BinOp, Expr, Kind, Link, Node, NumSort, UnOp};
+use sc_syntax::{BinOp, Expr, Link, NameKind, Node, NumSort, UnOp};
 
-fn sort_of_name(at: Place, kind: Option<Kind>) -> Result<NumSort, TypeFault>
+fn sort_of_name(at: Place, kind: Option<NameKind>) -> Result<NumSort, TypeFault>
     ensures { result ≡ sort_of_name at kind }
 {
     match kind {
         None => Err(TypeFault::UnknownName(at)),
-        Some(Kind::Number(sort)) => Ok(sort),
-        Some(Kind::One(Class::C) | Kind::Many(Class::C)) => Err(TypeFault::MeasuredUse(at)),
-        Some(Kind::One(Class::Q) | Kind::Many(Class::Q)) => Err(TypeFault::WrongKind(at)),
+        Some(NameKind::Number(sort)) => Ok(sort),
+        Some(NameKind::One(Class::C) | NameKind::Many(Class::C)) => Err(TypeFault::MeasuredUse(at)),
+        Some(NameKind::One(Class::Q) | NameKind::Many(Class::Q)) => Err(TypeFault::WrongKind(at)),
     }
 }
 
-fn fault_of_indexed(at: Place, kind: Option<Kind>) -> TypeFault
+fn fault_of_indexed(at: Place, kind: Option<NameKind>) -> TypeFault
     ensures { result ≡ fault_of_indexed at kind }
 {
     match kind {
         None => TypeFault::UnknownName(at),
-        Some(Kind::One(Class::C) | Kind::Many(Class::C)) => TypeFault::MeasuredUse(at),
+        Some(NameKind::One(Class::C) | NameKind::Many(Class::C)) => TypeFault::MeasuredUse(at),
         Some(_) => TypeFault::WrongKind(at),
     }
 }

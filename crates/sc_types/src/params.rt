@@ -13,7 +13,7 @@ use crate::names::Names;
 use crate::scopes::Scopes;
 use crate::wires::int;
 use sc_base::{NameMap, Text};
-use sc_syntax::{Kind, NumSort, Param, Sort};
+use sc_syntax::{NameKind, NumSort, Param, Sort};
 use std::alloc::Global;
 
 fn note(
@@ -66,12 +66,12 @@ impl<'a> LengthNames<'a> {
 impl<'a> Names for LengthNames<'a> {
     ghost kinds = { λ n. length_names n.last.now n.position n.scopes.now };
 
-    fn kind(&self, name: &Text) -> Option<Kind> {
+    fn kind(&self, name: &Text) -> Option<NameKind> {
         match self.scopes.declared_kind(name) {
             Some(kind) => Some(kind),
             None => {
                 if self.is_later_int(name) {
-                    Some(Kind::Number(NumSort::Int))
+                    Some(NameKind::Number(NumSort::Int))
                 } else {
                     self.scopes.kind(name)
                 }
@@ -105,14 +105,14 @@ fn length(
     stated_length(&names, sort)
 }
 
-fn param_kind(sort: &Sort) -> Kind
+fn param_kind(sort: &Sort) -> NameKind
     ensures { result ≡ kind_of_param sort.now }
 {
     match sort {
-        Sort::One(class) => Kind::One(*class),
-        Sort::Many(class, _) => Kind::Many(*class),
-        Sort::Int => Kind::Number(NumSort::Int),
-        Sort::Double => Kind::Number(NumSort::Double),
+        Sort::One(class) => NameKind::One(*class),
+        Sort::Many(class, _) => NameKind::Many(*class),
+        Sort::Int => NameKind::Number(NumSort::Int),
+        Sort::Double => NameKind::Number(NumSort::Double),
     }
 }
 

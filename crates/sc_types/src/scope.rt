@@ -4,14 +4,14 @@ ghost use Rattle.sc_types.specs.Scopes.{known, kind_here, declared_here};
 
 use crate::fault::TypeFault;
 use sc_base::{NameMap, Text};
-use sc_syntax::{Kind, Name};
+use sc_syntax::{Name, NameKind};
 use std::alloc::Global;
 use std::marker::Model;
 
 /// Names and kinds in the order in which they were declared.
 #[derive(Drop)]
 pub(crate) struct Scope {
-    kinds: NameMap<Kind>,
+    kinds: NameMap<NameKind>,
 }
 
 impl Model for Scope {
@@ -33,13 +33,13 @@ impl Scope {
         }
     }
 
-    pub(crate) fn get(&self, name: &Text) -> Option<Kind>
+    pub(crate) fn get(&self, name: &Text) -> Option<NameKind>
         ensures { result ≡ kind_here self.now name.now }
     {
         self.kinds.get(name).copied()
     }
 
-    fn push(&mut self, alloc: Global, name: &Text, kind: Kind) -> Result<(), TypeFault>
+    fn push(&mut self, alloc: Global, name: &Text, kind: NameKind) -> Result<(), TypeFault>
         requires { kind_here self.old name.now ≡ None }
         ensures ok { OnOk result (self.new ≡ self.old ++ known name.now kind ∷ []) }
         ensures err { IfErr result (λ f. f ≡ TypeFault.Memory) }
@@ -53,7 +53,7 @@ impl Scope {
         &mut self,
         alloc: Global,
         name: &Name,
-        kind: Kind,
+        kind: NameKind,
     ) -> Result<(), TypeFault>
         ensures ok { OnOk result (declared_here self.old name.now kind ≡ Ok self.new) }
         ensures err { IfErr result (λ f. f ≢ TypeFault.Memory → declared_here self.old name.now kind ≡ Err f) }

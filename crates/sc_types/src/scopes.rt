@@ -7,7 +7,7 @@ use crate::fault::TypeFault;
 use crate::names::Names;
 use crate::scope::Scope;
 use sc_base::Text;
-use sc_syntax::{Kind, Name, NumSort};
+use sc_syntax::{Name, NameKind, NumSort};
 use std::alloc::Global;
 use std::marker::Model;
 use std::mem;
@@ -63,7 +63,7 @@ impl Scopes {
     }
 
     /// Declares a name in the innermost scope: `Redefined` where that scope has it.
-    pub(crate) fn declare(&mut self, name: &Name, kind: Kind) -> Result<(), TypeFault>
+    pub(crate) fn declare(&mut self, name: &Name, kind: NameKind) -> Result<(), TypeFault>
         ensures ok { OnOk result (declared self.old name.now kind ≡ Ok self.new) }
         ensures err { IfErr result (λ f. f ≢ TypeFault.Memory → declared self.old name.now kind ≡ Err f) }
     {
@@ -72,7 +72,7 @@ impl Scopes {
     }
 
     /// What a name stands for in the innermost scope that has it.
-    pub(crate) fn declared_kind(&self, name: &Text) -> Option<Kind>
+    pub(crate) fn declared_kind(&self, name: &Text) -> Option<NameKind>
         ensures { result ≡ kind_in self.now name.now }
     {
         match self.innermost.get(name) {
@@ -82,7 +82,7 @@ impl Scopes {
     }
 }
 
-fn kind_around(outer: &[Scope], name: &Text) -> Option<Kind>
+fn kind_around(outer: &[Scope], name: &Text) -> Option<NameKind>
     ensures { result ≡ kind_in (reverse outer.now) name.now }
 {
     let mut depth = outer.len();
@@ -102,14 +102,14 @@ pub(crate) fn is_pi(name: &Text) -> bool
 }
 
 /// The kind that was found, or else that of `M_PI`.
-fn or_pi(name: &Text, kind: Option<Kind>) -> Option<Kind>
+fn or_pi(name: &Text, kind: Option<NameKind>) -> Option<NameKind>
     ensures { result ≡ or_pi name.now kind }
 {
     match kind {
         Some(kind) => Some(kind),
         None => {
             if is_pi(name) {
-                Some(Kind::Number(NumSort::Double))
+                Some(NameKind::Number(NumSort::Double))
             } else {
                 None
             }
@@ -122,7 +122,7 @@ impl Names for Scopes {
 
     ghost kinds = { kinds_in };
 
-    fn kind(&self, name: &Text) -> Option<Kind> {
+    fn kind(&self, name: &Text) -> Option<NameKind> {
         or_pi(name, self.declared_kind(name))
     }
 }

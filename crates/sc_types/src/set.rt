@@ -1,7 +1,7 @@
 //! Numbers that are set.
 ghost use Rattle.std.specs.Prelude.{◌≡◌, [], ◌∷◌, ◌++◌, Some, None, IfOk};
 ghost use Rattle.std.specs.Result.{result_err};
-ghost use Rattle.sc_syntax.specs.Kind.{kind_of_expr};
+ghost use Rattle.sc_syntax.specs.NameKind.{kind_of_expr};
 ghost use Rattle.sc_types.specs.Checks.{first_fault};
 ghost use Rattle.sc_types.specs.Declarations.{is_pi as is_pi_name};
 ghost use Rattle.sc_types.specs.Numbers.{number_checks};
@@ -13,10 +13,10 @@ use crate::numbers::operated;
 use crate::scopes::{Scopes, is_pi};
 use crate::wires::number;
 use sc_base::Place;
-use sc_syntax::{BinOp, Expr, Kind, Name, NumSort, Set, SetOp};
+use sc_syntax::{BinOp, Expr, Name, NameKind, NumSort, Set, SetOp};
 
 /// The kind of a number that may be set: no wire, and not the `M_PI` outside every scope.
-fn may_set(name: &Name, kind: Option<Kind>) -> Result<NumSort, TypeFault>
+fn may_set(name: &Name, kind: Option<NameKind>) -> Result<NumSort, TypeFault>
     ensures sort { IfOk result (λ s. number_of kind ≡ Some s) }
     ensures fault { result_err result ≡ first_fault (may_be_set name.now.place (is_pi_name name.now.text) kind ∷ []) }
 {
@@ -28,7 +28,7 @@ fn may_set(name: &Name, kind: Option<Kind>) -> Result<NumSort, TypeFault>
                 Err(TypeFault::UnknownName(name.place))
             }
         }
-        Some(Kind::Number(sort)) => Ok(sort),
+        Some(NameKind::Number(sort)) => Ok(sort),
         Some(_) => Err(TypeFault::WrongKind(name.place)),
     }
 }

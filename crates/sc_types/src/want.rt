@@ -3,7 +3,7 @@ ghost use Rattle.std.specs.Prelude.{◌≡◌};
 ghost use Rattle.sc_types.specs.Wires.{same_class as same, suits as suited, suits_indexed as suited_indexed};
 
 use sc_base::Class;
-use sc_syntax::Kind;
+use sc_syntax::NameKind;
 
 #[derive(Clone, Copy, Debug, PartialEq, Eq)]
 pub(crate) enum Want {
@@ -25,24 +25,24 @@ fn same_class(a: Class, b: Class) -> bool
 }
 
 /// Whether a name of this kind, without an index, is what is wanted.
-pub(crate) fn suits(want: Want, kind: Kind) -> bool
+pub(crate) fn suits(want: Want, kind: NameKind) -> bool
     ensures { result ≡ suited want kind }
 {
     match (want, kind) {
-        (Want::OneWire(class), Kind::One(other)) => same_class(class, other),
-        (Want::ManyWires(class), Kind::Many(other)) => same_class(class, other),
-        (Want::Word, Kind::One(other) | Kind::Many(other)) => same_class(Class::Q, other),
+        (Want::OneWire(class), NameKind::One(other)) => same_class(class, other),
+        (Want::ManyWires(class), NameKind::Many(other)) => same_class(class, other),
+        (Want::Word, NameKind::One(other) | NameKind::Many(other)) => same_class(Class::Q, other),
         _ => false,
     }
 }
 
 /// Whether one element of a name of this kind is what is wanted.
-pub(crate) fn suits_indexed(want: Want, kind: Kind) -> bool
+pub(crate) fn suits_indexed(want: Want, kind: NameKind) -> bool
     ensures { result ≡ suited_indexed want kind }
 {
     match (want, kind) {
-        (Want::OneWire(class), Kind::Many(other)) => same_class(class, other),
-        (Want::Word, Kind::Many(other)) => same_class(Class::Q, other),
+        (Want::OneWire(class), NameKind::Many(other)) => same_class(class, other),
+        (Want::Word, NameKind::Many(other)) => same_class(Class::Q, other),
         _ => false,
     }
 }

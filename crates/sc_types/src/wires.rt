@@ -1,7 +1,7 @@
 //! Operands and arguments.
 ghost use Rattle.std.specs.Prelude.{◌≡◌, ◌≤◌, ◌⊎◌, [], ◌∷◌, Some, IfOk, length};
 ghost use Rattle.std.specs.Result.{result_err};
-ghost use Rattle.sc_syntax.specs.Kind.{kind_of_expr};
+ghost use Rattle.sc_syntax.specs.NameKind.{kind_of_expr};
 ghost use Rattle.sc_types.specs.Checks.{first_fault};
 ghost use Rattle.sc_types.specs.Numbers.{number_checks, int_checks};
 ghost use Rattle.sc_types.specs.Wires.{is_wire, suits as suited, suits_indexed as suited_indexed, wire_node, argument_checks, operand_checks, arguments_checks};
@@ -11,7 +11,7 @@ use crate::names::Names;
 use crate::numbers::{int_of, sort_of};
 use crate::want::{Want, suits, suits_indexed};
 use sc_base::Place;
-use sc_syntax::{Expr, Kind, Node, NumSort, Operand};
+use sc_syntax::{Expr, NameKind, Node, NumSort, Operand};
 
 /// The kind of an expression where a number is needed, or the fault of its checks.
 pub(crate) fn number<N: Names>(names: &N, expr: &Expr) -> Result<NumSort, TypeFault>
@@ -28,7 +28,7 @@ pub(crate) fn int<N: Names>(names: &N, expr: &Expr) -> Result<NumSort, TypeFault
     int_of(names, expr)
 }
 
-fn whole(want: Want, at: Place, kind: Option<Kind>) -> Result<(), TypeFault>
+fn whole(want: Want, at: Place, kind: Option<NameKind>) -> Result<(), TypeFault>
     ensures { result_err result ≡ first_fault (is_wire (suited want) at kind ∷ []) }
 {
     match kind {
@@ -43,7 +43,7 @@ fn whole(want: Want, at: Place, kind: Option<Kind>) -> Result<(), TypeFault>
     }
 }
 
-fn element(want: Want, at: Place, kind: Option<Kind>) -> Result<(), TypeFault>
+fn element(want: Want, at: Place, kind: Option<NameKind>) -> Result<(), TypeFault>
     ensures { result_err result ≡ first_fault (is_wire (suited_indexed want) at kind ∷ []) }
 {
     match kind {

@@ -2,12 +2,12 @@
 use Rattle.std.proofs.Common.{◌≡◌, refl, sym, ap, ◌∙◌, ℕ, List, Option, Some, None, inl, inr, if◌then◌else◌}
 use Rattle.std.specs.Option.{option_map}
 use Rattle.sc_base.specs.declared.Place.{Place}
-use Rattle.sc_syntax.specs.declared.Kind.{Kind}
-use Rattle.sc_syntax.specs.declared.Kind.TheVariants as k
+use Rattle.sc_syntax.specs.declared.NameKind.{NameKind}
+use Rattle.sc_syntax.specs.declared.NameKind.TheVariants as k
 use Rattle.sc_syntax.specs.declared.NumSort.{NumSort}
 use Rattle.sc_syntax.specs.Alike.{PureNode, PureLinks, no_links, link}
-use Rattle.sc_syntax.specs.Kind as kind
-use Rattle.sc_syntax.specs.Kind.{Kinds, number_kind, wider, kind_of, kind_of_links, kind_of_operation, kind_of_unary}
+use Rattle.sc_syntax.specs.NameKind as kind
+use Rattle.sc_syntax.specs.NameKind.{Kinds, number_kind, wider, kind_of, kind_of_links, kind_of_operation, kind_of_unary}
 use Rattle.sc_value.specs.declared.Value.{Value}
 use Rattle.sc_value.specs.Numbers.{◌>>=◌, is_true, beside, unary}
 use Rattle.sc_value.specs.Expressions.{Values, sort_of, kinds_of, step, value_of, value_of_links, value}
@@ -89,7 +89,7 @@ both None next b e = cc
 abbrev IsNumber : Kinds → List ℕ → Type 0
 IsNumber kinds name = (of : NumSort) × (kinds name ≡ Some (k.Number of))
 
-number_there : (o : Option Kind) (sort : NumSort) → number_kind o ≡ Some sort → (of : NumSort) × (o ≡ Some (k.Number of))
+number_there : (o : Option NameKind) (sort : NumSort) → number_kind o ≡ Some sort → (of : NumSort) × (o ≡ Some (k.Number of))
 number_there None sort e = cc
 number_there (Some (k.Number s)) sort e = (s, refl)
 number_there (Some (k.One c)) sort e = cc

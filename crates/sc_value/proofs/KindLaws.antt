@@ -9,10 +9,10 @@ use Rattle.sc_syntax.specs.declared.UnOp.{UnOp}
 use Rattle.sc_syntax.specs.declared.UnOp.TheVariants as un
 use Rattle.sc_syntax.specs.declared.NumSort.{NumSort}
 use Rattle.sc_syntax.specs.declared.NumSort.TheVariants as num
-use Rattle.sc_syntax.specs.declared.Kind.TheVariants.{Number}
+use Rattle.sc_syntax.specs.declared.NameKind.TheVariants.{Number}
 use Rattle.sc_syntax.specs.Alike.{PureNode, PureLinks, PureExpr, no_links, link}
-use Rattle.sc_syntax.specs.Kind as kind
-use Rattle.sc_syntax.specs.Kind.{number_kind, wider, kind_of, kind_of_links, kind_of_operation, kind_of_unary}
+use Rattle.sc_syntax.specs.NameKind as kind
+use Rattle.sc_syntax.specs.NameKind.{number_kind, wider, kind_of, kind_of_links, kind_of_operation, kind_of_unary}
 use Rattle.sc_value.specs.declared.Value.{Value}
 use Rattle.sc_value.specs.declared.Value.TheVariants as v
 use Rattle.sc_value.specs.declared.EvalFault.{EvalFault}

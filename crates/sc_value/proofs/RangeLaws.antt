@@ -14,7 +14,7 @@ use Rattle.sc_syntax.specs.declared.NumSort.TheVariants as num
 use Rattle.sc_syntax.specs.declared.Node.{Node, Int, Decimal, Name, Index', Paren', Unary', Chain', Pick', Row_of-Link, end_of-Link, more_of-Link}
 use Rattle.sc_syntax.specs.Alike.{PureNode, PureLinks, no_links, link, pure_node, pure_links}
 use Rattle.sc_syntax.specs.Formed.{IsFormedNode, AreFormedLinks}
-use Rattle.sc_syntax.specs.Kind.{kind_of}
+use Rattle.sc_syntax.specs.NameKind.{kind_of}
 use Rattle.sc_syntax.specs.Written.{IsWritten}
 use Rattle.sc_value.specs.declared.Value.{Value}
 use Rattle.sc_value.specs.declared.Value.TheVariants as v

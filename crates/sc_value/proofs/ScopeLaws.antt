@@ -8,7 +8,7 @@ use Rattle.std.specs.Cmp.Lexicographic.{slice_cmp, nat_list_cmp_total}
 use Rattle.std.proofs.lemmas.Slice.Eq.{bytes_eq-Decides}
 use Rattle.std.specs.FinMap.{get, insert, empty, get-insert, get-empty}
 use Rattle.std.specs.Str.{bytes_eq}
-use Rattle.sc_syntax.specs.declared.Kind.TheVariants.{Number}
+use Rattle.sc_syntax.specs.declared.NameKind.TheVariants.{Number}
 use Rattle.sc_value.specs.declared.Value.{Value}
 use Rattle.sc_value.specs.Expressions.{sort_of, kinds_of}
 use Rattle.sc_value.specs.Scopes.{Scope, Scopes, constant, declared_value, value_of_name, known_kinds, with_declared, with_set, HasKind}

@@ -1,11 +1,11 @@
 -- An expression depends on the names that it uses, and on no other.
 use Rattle.std.specs.Prelude.{ℕ, ◌≡◌, ◌⊎◌, List, Option, Some}
 use Rattle.std.specs.Option.{option_map}
-use Rattle.sc_syntax.specs.declared.Kind.TheVariants.{Number}
+use Rattle.sc_syntax.specs.declared.NameKind.TheVariants.{Number}
 use Rattle.sc_syntax.specs.declared.Expr.{Expr}
 use Rattle.sc_syntax.specs.declared.NumSort.{NumSort}
 use Rattle.sc_syntax.specs.Alike.{PureNode, PureLinks, PureExpr, no_links, link, pure_expr}
-use Rattle.sc_syntax.specs.Kind.{Kinds, kind_of}
+use Rattle.sc_syntax.specs.NameKind.{Kinds, kind_of}
 use Rattle.sc_value.specs.Expressions.{Values, sort_of, kinds_of, value, value_of_expr}
 
 -- the name stands in the expression

@@ -6,10 +6,10 @@ use Rattle.sc_syntax.specs.declared.BinOp.{BinOp}
 use Rattle.sc_syntax.specs.declared.BinOp.TheVariants as op
 use Rattle.sc_syntax.specs.declared.NumSort.{NumSort}
 use Rattle.sc_syntax.specs.declared.NumSort.TheVariants as num
-use Rattle.sc_syntax.specs.declared.Kind.TheVariants.{Number}
+use Rattle.sc_syntax.specs.declared.NameKind.TheVariants.{Number}
 use Rattle.sc_syntax.specs.declared.Expr.{Expr}
 use Rattle.sc_syntax.specs.Alike.{PureNode, PureLinks, PureExpr, no_links, link, pure_expr}
-use Rattle.sc_syntax.specs.Kind.{Kinds, kind_of, kind_of_expr}
+use Rattle.sc_syntax.specs.NameKind.{Kinds, kind_of, kind_of_expr}
 use Rattle.sc_value.specs.declared.Value.{Value}
 use Rattle.sc_value.specs.declared.Value.TheVariants as v
 use Rattle.sc_value.specs.declared.EvalFault.{EvalFault}

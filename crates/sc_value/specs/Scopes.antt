@@ -5,7 +5,7 @@ use Rattle.std.specs.Ordering.{nat_cmp}
 use Rattle.std.specs.Cmp.Lexicographic.{slice_cmp}
 use Rattle.std.specs.FinMap.{FinMap, get, insert, contains_key}
 use Rattle.std.specs.Str.{bytes_eq}
-use Rattle.sc_syntax.specs.Kind.{Kinds}
+use Rattle.sc_syntax.specs.NameKind.{Kinds}
 use Rattle.sc_value.specs.declared.Value.{Value}
 use Rattle.sc_value.specs.Numbers.{fixed}
 use Rattle.sc_value.specs.Expressions.{Values, sort_of, kinds_of}

@@ -1,6 +1,6 @@
 //! The value of an expression.
 ghost use Rattle.std.specs.Prelude.{◌≡◌};
-ghost use Rattle.sc_syntax.specs.Kind.{kind_of_expr};
+ghost use Rattle.sc_syntax.specs.NameKind.{kind_of_expr};
 ghost use Rattle.sc_value.specs.Expressions.{sort_of, value_of_expr, IsOfItsKind};
 ghost use Rattle.sc_value.specs.Scopes.{value_of_name, known_kinds};
 

@@ -1,6 +1,6 @@
 use Rattle.std.proofs.Common.{ap, ◌∙◌}
 use Rattle.std.specs.Result.{result_err}
-use Rattle.sc_syntax.specs.Kind.{kind_of_expr}
+use Rattle.sc_syntax.specs.NameKind.{kind_of_expr}
 use Rattle.sc_types.specs.Numbers.{int_checks}
 use Rattle.sc_types.specs.Sorts.{int_of}
 use Rattle.sc_types.proofs.Telling.{tells_int, fault_told}

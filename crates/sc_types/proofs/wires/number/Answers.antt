@@ -2,7 +2,7 @@ use Rattle.std.proofs.Common.{◌≡◌, Result, Some, sym, ap, ◌∙◌, subst
 use Rattle.std.specs.Prelude.{IfOk}
 use Rattle.std.specs.Result.{result_err}
 use Rattle.sc_syntax.specs.declared.NumSort.{NumSort}
-use Rattle.sc_syntax.specs.Kind.{kind_of_expr}
+use Rattle.sc_syntax.specs.NameKind.{kind_of_expr}
 use Rattle.sc_types.specs.declared.fault.TypeFault.{TypeFault}
 use Rattle.sc_types.specs.Numbers.{number_checks}
 use Rattle.sc_types.specs.Sorts.{sort_of}

@@ -1,6 +1,6 @@
 use Rattle.std.proofs.Common.{ap, sym, ◌∙◌}
 use Rattle.sc_syntax.specs.Alike.{pure_node, pure_link_list}
-use Rattle.sc_syntax.specs.Kind.{◌>>=◌, kind_of, kind_of_links, kind_of_expr}
+use Rattle.sc_syntax.specs.NameKind.{◌>>=◌, kind_of, kind_of_links, kind_of_expr}
 use Rattle.sc_syntax.proofs.PureRows.{pure_chain}
 use Rattle.sc_value.specs.Expressions.{kinds_of}
 use Rattle.sc_value.specs.Scopes.{value_of_name}

@@ -1,6 +1,6 @@
 use Rattle.std.proofs.Common.{◌≡◌, drop}
 use Rattle.sc_syntax.specs.Alike.{pure_link_list}
-use Rattle.sc_syntax.specs.Kind.{kind_of_links, kind_of_expr}
+use Rattle.sc_syntax.specs.NameKind.{kind_of_links, kind_of_expr}
 use Rattle.sc_value.specs.Expressions.{kinds_of}
 use Rattle.sc_value.specs.Scopes.{value_of_name}
 use Rattle.sc_value.proofs.expressions.+kind_of.Given as goal

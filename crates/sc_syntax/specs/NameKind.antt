@@ -2,8 +2,8 @@
 -- addresses, so that alike expressions have one kind.
 use Rattle.std.specs.Prelude.{ℕ, ◌≡◌, List, Option, Some, None}
 pub use Rattle.sc_base.specs.Options.{◌>>=◌}
-use Rattle.sc_syntax.specs.declared.kind.Kind.{Kind}
-use Rattle.sc_syntax.specs.declared.kind.Kind.TheVariants.{Number}
+use Rattle.sc_syntax.specs.declared.kind.NameKind.{NameKind}
+use Rattle.sc_syntax.specs.declared.kind.NameKind.TheVariants.{Number}
 use Rattle.sc_syntax.specs.declared.tree.BinOp.{BinOp}
 use Rattle.sc_syntax.specs.declared.tree.BinOp.TheVariants as op
 use Rattle.sc_syntax.specs.declared.tree.UnOp.{UnOp}
@@ -16,10 +16,10 @@ use Rattle.sc_syntax.specs.Alike.{PureNode, PureLinks, no_links, link, pure_node
 
 -- what each known name stands for
 abbrev pub Kinds : Type 0
-Kinds = List ℕ → Option Kind
+Kinds = List ℕ → Option NameKind
 
 -- a name that stands for a number has a kind, and no other has
-abbrev pub number_kind : Option Kind → Option NumSort
+abbrev pub number_kind : Option NameKind → Option NumSort
 number_kind (Some (Number sort)) = Some sort
 number_kind _ = None
 
