@@ -16,8 +16,11 @@ pub mod SharedWires
 pub mod TextLemmas
 pub mod RegionLemmas
 pub mod OneSchedule
+pub mod StepNumbers
 pub mod Lawful
 pub mod StepLaws
+pub mod InSequence
+pub mod Renamed
 pub mod SomeRank
 pub mod LaidSteps
 pub mod Grouping
