@@ -7,7 +7,7 @@ use Rattle.std.proofs.lemmas.List.Elements.{All-weaker}
 use Rattle.std.proofs.lemmas.Bool.{false≢true, cases_Bool, cases_lt, eqb-true, eq-eqb}
 use Rattle.std.proofs.lemmas.List.Folds.{list_any-append}
 use Rattle.sc_gate.specs.declared.gate.Gate.{Gate}
-use Rattle.sc_sched.specs.declared.neighbours.Neighbours.{Neighbours}
+use Rattle.sc_sched.specs.declared.neighbours.Marks.{Marks}
 use Rattle.sc_sched.specs.Gates.{shares}
 use Rattle.sc_sched.specs.Step.{count_below, Shop, IsShop, IsStep, fits, beside}
 use Rattle.sc_sched.specs.Legal.{Step, stands_in, placed}
@@ -158,7 +158,7 @@ module _ (gates : List Gate) where
       go (g ∷ gates) (suc x) l = go gates x (omega (arith, l))
 
   -- which gates are ready, by the marks of those placed and the last gates
-  pub ready_marked : (steps : List Step) (mark : ℕ → Bool) (last : List Neighbours) (x : ℕ) → x < length gates → AreLast gates last → ((y : ℕ) → y < length gates → mark y ≡ placed steps y) →
+  pub ready_marked : (steps : List Step) (mark : ℕ → Bool) (last : List Marks) (x : ℕ) → x < length gates → AreLast gates last → ((y : ℕ) → y < length gates → mark y ≡ placed steps y) →
       ((y z : ℕ) → y < z → z < length gates → shares gates y z ≡ true → placed steps z ≡ true → placed steps y ≡ true) →
       (not (mark x) && each mark (neighbours_at last x)) ≡ free_after steps x
   ready_marked steps mark last x b a same closed =
@@ -171,7 +171,7 @@ module _ (gates : List Gate) where
   any_stands p (x ∷ xs) q s h = elim (either (q == x) (stands xs q) s) [ inl e ↦ or_left _ _ (ap p (sym (eqb-true q x e)) ∙ h) | inr t ↦ or_right (p x) _ (any_stands p xs q t h) ]
 
   -- the gates that wait after a step: those that waited and are not taken, and the ready ones among the next gates
-  pub freed : (old now : ℕ → Bool) (last next : List Neighbours) (step : List ℕ) (waits waits' : Bool) (x : ℕ) → x < length gates → AreLast gates last → AreNext gates next →
+  pub freed : (old now : ℕ → Bool) (last next : List Marks) (step : List ℕ) (waits waits' : Bool) (x : ℕ) → x < length gates → AreLast gates last → AreNext gates next →
       ((y : ℕ) → y < length gates → now y ≡ (old y || stands step y)) →
       waits ≡ ((not (old x) && each old (neighbours_at last x)) && not (stands step x)) →
       waits' ≡ (waits || (list_any (λ p. holds (neighbours_at next p) x) step && (not (now x) && each now (neighbours_at last x)))) →
@@ -265,7 +265,7 @@ module _ (gates : List Gate) (k d : ℕ) (before : ℕ → ℕ → Bool) (l : La
   placed_after step regions x b e =
       placed_step steps regions x ∙ ap (λ (v : Bool). placed steps x || v) (ap (λ (z : Step). stands_in z x) e ∙ stands_cut (shop_of l room k) (laid_shop gates k d before l room laid wide) (stands step) x (omega (arith, b, laid.many)))
 
-pub freed_after : (gates : List Gate) (steps steps' : List Step) (old now : ℕ → Bool) (last next : List Neighbours) (step : List ℕ) (waits waits' : Bool) (x : ℕ) → x < length gates → AreLast gates last → AreNext gates next →
+pub freed_after : (gates : List Gate) (steps steps' : List Step) (old now : ℕ → Bool) (last next : List Marks) (step : List ℕ) (waits waits' : Bool) (x : ℕ) → x < length gates → AreLast gates last → AreNext gates next →
     ((y : ℕ) → y < length gates → old y ≡ placed steps y) → ((y : ℕ) → y < length gates → now y ≡ (old y || stands step y)) → ((y : ℕ) → y < length gates → now y ≡ placed steps' y) →
     ((y z : ℕ) → y < z → z < length gates → shares gates y z ≡ true → placed steps z ≡ true → placed steps y ≡ true) →
     ((y z : ℕ) → y < z → z < length gates → shares gates y z ≡ true → placed steps' z ≡ true → placed steps' y ≡ true) →
