@@ -11,12 +11,13 @@ use Rattle.sc_base.specs.declared.names.GateName.TheVariants.{Cnot, Toffoli, Fre
 use Rattle.sc_gate.specs.declared.gate.Kind.{Kind}
 use Rattle.sc_gate.specs.declared.gate.Gate.{Gate}
 use Rattle.sc_gate.specs.Gates.{name_of, qubits_of}
-use Rattle.sc_sched.specs.Gates.{arity_of, arity_at, kind_of, kind_at, same_kind}
+use Rattle.sc_gate.specs.SameGates.{same_kind}
+use Rattle.sc_sched.specs.Gates.{arity_of, arity_at, kind_of, kind_at}
 use Rattle.sc_sched.specs.Legal.{Region, Step, stands_in, placed, step_of, IsLegal}
 use Rattle.sc_sched.specs.Step.{IsShop, IsOrder}
 use Rattle.sc_sched.specs.Schedule.{IsPriority}
 use Rattle.sc_sched.specs.PrioritySchedules.{first_like, kind_names, room_for, rooms, shop_of_gates, NoneIsWider, IsPrioritySchedule, IsRankOrder}
-use Rattle.sc_sched.proofs.SameKind.{same_kind-true, same_kind-refl}
+use Rattle.sc_gate.proofs.SameGates.{same_kind-true, same_kind-refl}
 use Rattle.sc_sched.proofs.RegionLemmas.{IsRegion, cut_regions}
 use Rattle.sc_sched.proofs.StepNumbers.{placed_before}
 use Rattle.sc_sched.proofs.Legal.{narrow, in_order}

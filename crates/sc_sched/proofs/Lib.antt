@@ -11,9 +11,7 @@ pub mod Legal
 pub mod Open
 pub mod Once
 pub mod Shops
-pub mod SameKind
 pub mod SharedWires
-pub mod TextLemmas
 pub mod RegionLemmas
 pub mod OneSchedule
 pub mod StepNumbers
