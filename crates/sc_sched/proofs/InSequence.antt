@@ -1,17 +1,16 @@
 -- Legal schedules one after another, and the schedule of one gate.
-use Rattle.std.proofs.Common.{◌≡◌, ℕ, zero, suc, ◌+◌, ◌-◌, ◌<◌, ◌≤◌, Bool, true, false, cond, Option, Some, None, List, [], ◌∷◌, ◌++◌, length, get_or, map, refl, sym, ap, ◌∙◌, subst, arith, inl, inr, zero-add}
+use Rattle.std.proofs.Common.{◌≡◌, ℕ, zero, suc, ◌+◌, ◌-◌, ◌<◌, ◌≤◌, Bool, true, false, cond, Option, List, [], ◌∷◌, ◌++◌, length, get_or, map, refl, sym, ap, ◌∙◌, subst, arith, inl, inr, zero-add}
 use Rattle.std.specs.Prelude.{◌==◌, All, Contains, slice_get, if◌then◌else◌}
 use Rattle.std.specs.Option.{option_map}
 use Rattle.std.specs.List.{list_any, sum_by, count_by}
 use Rattle.std.proofs.lemmas.Bool.{false≢true, cases_Bool, cases_lt, eqb-true, eq-eqb}
 use Rattle.std.proofs.lemmas.List.{length-append, length-map, get_or-map, get_or_default}
-use Rattle.std.proofs.lemmas.List.Elements.{All-append, All-cons, All-nil, All-map, All-weaker, All-contains}
+use Rattle.std.proofs.lemmas.List.Elements.{All-append, All-cons, All-nil, All-map, All-contains}
 use Rattle.std.proofs.lemmas.List.Sums.{sum_by-cons, sum_by-append}
 use Rattle.std.proofs.lemmas.Option.{slice_get-map}
-use Rattle.sc_gate.specs.declared.gate.Kind.{Kind}
 use Rattle.sc_gate.specs.declared.gate.Gate.{Gate}
 use Rattle.sc_gate.specs.Gates.{name_of, qubits_of}
-use Rattle.sc_sched.specs.Gates.{arity_of, arity_at, kind_of, kind_at, both_share, shares}
+use Rattle.sc_sched.specs.Gates.{arity_at, kind_of, kind_at, both_share, shares}
 use Rattle.sc_sched.specs.Legal.{Region, Step, stands_in, placed, times_in, times_placed, step_of, IsLegal}
 use Rattle.sc_sched.specs.Sequences.{region_behind, step_behind, in_sequence, alone}
 use Rattle.sc_sched.proofs.Take.{sum_same, not_eq}

@@ -10,7 +10,6 @@ use Rattle.sc_gate.specs.declared.gate.Gate.{Gate}
 use Rattle.sc_gate.specs.Gates.{operands}
 use Rattle.sc_gate.specs.Wires.{member}
 use Rattle.sc_gate.proofs.WireLemmas.{member_here, member_later, member_cases}
-use Rattle.sc_sched.specs.declared.neighbours.Neighbours.{Neighbours}
 use Rattle.sc_sched.specs.declared.neighbours.Marks.{Marks}
 use Rattle.sc_sched.specs.Neighbours.{on_wire, numbers_by, none_or, each, is_number, holds, unmarked, neighbours_at, AreNext}
 use Rattle.sc_sched.proofs.Count.{and_left, and_right, both, either, or_left, or_right}

@@ -1,6 +1,6 @@
 -- A legal schedule of gates is one of the gates under other names of their wires.
-use Rattle.std.proofs.Common.{◌≡◌, ℕ, zero, suc, ◌<◌, ◌≤◌, Bool, true, false, Option, Some, None, List, [], ◌∷◌, ◌++◌, length, map, refl, sym, ap, ◌∙◌, subst, arith, inl, inr}
-use Rattle.std.specs.Prelude.{All, Contains, slice_get, flat_map, ◌||◌}
+use Rattle.std.proofs.Common.{◌≡◌, ℕ, zero, suc, ◌<◌, ◌≤◌, true, false, Option, List, [], ◌∷◌, ◌++◌, length, map, refl, sym, ap, ◌∙◌, subst, arith, inl, inr}
+use Rattle.std.specs.Prelude.{All, Contains, flat_map}
 use Rattle.std.specs.List.{sum_by}
 use Rattle.std.proofs.lemmas.Bool.{false≢true, cases_Bool}
 use Rattle.std.proofs.lemmas.List.{length-map}
@@ -14,7 +14,7 @@ use Rattle.sc_gate.specs.Wires.{same_wire, member}
 use Rattle.sc_gate.proofs.WireLemmas.{member_here, member_later, member_cases}
 use Rattle.sc_gate.proofs.RenameLemmas.{operands-rename}
 use Rattle.sc_sched.specs.Gates.{arity_at, kind_at, shares}
-use Rattle.sc_sched.specs.Legal.{Region, Step, step_of, IsLegal}
+use Rattle.sc_sched.specs.Legal.{Step, IsLegal}
 use Rattle.sc_sched.proofs.Free.{fun_same}
 use Rattle.sc_sched.proofs.Lawful.{arity_or, arity_by_kind}
 use Rattle.sc_sched.proofs.SharedWires.{SharedWire, shared_wire, shares_by}

@@ -1,8 +1,8 @@
 -- How many steps a priority schedule has, and that it has a text.
-use Rattle.std.proofs.Common.{◌≡◌, ℕ, zero, suc, ◌+◌, ◌<◌, ◌≤◌, Bool, true, false, not, List, [], ◌∷◌, ◌++◌, length, get_or, take, drop, refl, sym, ap, ◌∙◌, subst, arith, inl, inr, ◌⊎◌}
-use Rattle.std.specs.Prelude.{All, Contains, ◌==◌}
-use Rattle.std.specs.List.{sum_by, list_any, flat_map, filter}
-use Rattle.std.proofs.lemmas.Bool.{false≢true, cases_Bool, cases_lt, eqb-true}
+use Rattle.std.proofs.Common.{◌≡◌, ℕ, zero, suc, ◌+◌, ◌<◌, ◌≤◌, Bool, true, not, List, [], ◌∷◌, ◌++◌, length, get_or, take, drop, refl, sym, ap, ◌∙◌, subst, arith, inl, inr, ◌⊎◌}
+use Rattle.std.specs.Prelude.{All}
+use Rattle.std.specs.List.{sum_by}
+use Rattle.std.proofs.lemmas.Bool.{cases_lt}
 use Rattle.std.proofs.lemmas.List.{append_assoc}
 use Rattle.std.proofs.lemmas.List.Elements.{All-nil, All-cons}
 use Rattle.std.proofs.lemmas.List.Sums.{get_or-le-sum_by}
@@ -13,13 +13,12 @@ use Rattle.sc_sched.specs.Step.{Shop, IsShop, count_below}
 use Rattle.sc_sched.specs.Schedule.{IsPriority}
 use Rattle.sc_sched.specs.Scheduling.{IsFirstWider}
 use Rattle.sc_sched.specs.declared.plan.Plan.{Plan}
-use Rattle.sc_sched.specs.Text.{IsSize, IsWritable, HasText}
+use Rattle.sc_sched.specs.Text.{IsSize, HasText}
 use Rattle.sc_sched.specs.Schedule.{pieces, of_kind, cut}
-use Rattle.sc_sched.proofs.Count.{either}
 use Rattle.sc_sched.proofs.RegionLemmas.{all_flat}
 use Rattle.sc_sched.proofs.StepNumbers.{Spot, spot}
 use Rattle.sc_sched.proofs.Lawful.{shop_of_gates_is, split_at}
-use Rattle.sc_sched.specs.PrioritySchedules.{NoneIsWider, shop_of_gates}
+use Rattle.sc_sched.specs.PrioritySchedules.{shop_of_gates}
 use Rattle.sc_sched.proofs.Step.{count_all}
 use Rattle.sc_sched.proofs.Build.{Follows}
 use Rattle.sc_sched.proofs.Progress.{fewer_left}

@@ -1,4 +1,3 @@
-use Rattle.std.proofs.Common.{refl}
 use Rattle.sc_sched.proofs.InSequence.{legal_alone}
 use Rattle.sc_sched.proofs.laws.one_gate_stands_alone.Goals as goal
 

@@ -1,4 +1,3 @@
-use Rattle.std.proofs.Common.{◌≡◌, ◌<◌}
 use Rattle.sc_sched.specs.Neighbours.{is_number}
 use Rattle.sc_sched.proofs.Count.{or_left, or_right}
 use Rattle.sc_sched.proofs.Freeing.{inside_of}
