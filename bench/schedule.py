@@ -133,7 +133,9 @@ fn make(alloc: Global, form: &str, count: u32) -> Result<Vec<Gate>, AllocError> 
 fn fold(state: u64, number: u64, size: u64) -> u64 {
     let factor = 0x9e37_79b9_7f4a_7c15u64 ^ (2 * size.min(8));
     let product = ((state ^ number) as u128).wrapping_mul(factor as u128);
-    (product & 0xFFFF_FFFF_FFFF_FFFF) as u64 ^ (product >> 64) as u64
+    let low = u64::try_from(product & 0xFFFF_FFFF_FFFF_FFFF).unwrap_or(0);
+    let high = u64::try_from(product >> 64).unwrap_or(0);
+    low ^ high
 }
 
 /// Whether the kit's hash map would begin its look-up in one group of 256, for a wire's number or an angle of Rz.
