@@ -6,10 +6,12 @@ use Rattle.std.proofs.lemmas.List.{get_or-set_same, get_or-set_other, get_or_app
 use Rattle.std.proofs.lemmas.Option.{slice_get-get_or}
 use Rattle.sc_sched.proofs.Free.{fun_same}
 use Rattle.sc_gate.specs.declared.gate.Wire.{Wire}
+use Rattle.sc_gate.specs.declared.gate.Kind.TheVariants.{X}
 use Rattle.sc_gate.specs.declared.gate.Gate.{Gate}
 use Rattle.sc_gate.specs.Gates.{operands}
 use Rattle.sc_gate.specs.Wires.{member}
 use Rattle.sc_gate.proofs.WireLemmas.{member_here, member_later, member_cases}
+use Rattle.sc_sched.specs.declared.neighbours.Neighbours.{Neighbours}
 use Rattle.sc_sched.specs.declared.neighbours.Marks.{Marks}
 use Rattle.sc_sched.specs.Neighbours.{on_wire, numbers_by, none_or, each, is_number, holds, unmarked, neighbours_at, AreNext}
 use Rattle.sc_sched.proofs.Count.{and_left, and_right, both, either, or_left, or_right}
@@ -150,8 +152,11 @@ holds_from f g z h = elim (either (is_number (f g.a) z) _ h) [
 ]
 
 -- the numbers are below what those of the wires are below
-pub held_below : (f : Wire → Option ℕ) (g : Gate) (n : ℕ) → ((w : Wire) (z : ℕ) → f w ≡ Some z → z < n) → (z : ℕ) → holds (numbers_by f g) z ≡ true → z < n
-held_below f g n h z k = let (w, i) = holds_from f g z k in h w z i
+pub held_below : (f : Wire → Option ℕ) (a : Wire) (b c : Option Wire) (n : Neighbours) (m : ℕ) → n ≡ (record { a = f a; b = on_wire f b; c = on_wire f c }) →
+    ((w : Wire) (z : ℕ) → f w ≡ Some z → z < m) → (z : ℕ) → holds n z ≡ true → z < m
+held_below f a b c n m e h z k =
+    let (w, i) = holds_from f (record { kind = X; a = a; b = b; c = c }) z (sym (ap (λ (near : Neighbours). holds near z) e) ∙ k) in
+    h w z i
 
 pub has_here : (gates : List Gate) (x : ℕ) (gate : Gate) (w : Wire) → slice_get gates x ≡ Some gate → has_at gates x w ≡ member w (operands gate)
 has_here gates x gate w e = ap (λ (o : Option Gate). has_wire o w) e
@@ -207,14 +212,17 @@ next_more gates x g first next n e b s f h =
     let other : (p : ℕ) → p ≢ x → neighbours_at (slice_set next x n) p ≡ neighbours_at next p = λ p m. ap unmarked (get_or-set_other next x p n _ m) in
     record {
       inside = λ p z k. elim (cases_eq p x) [
-        | inl q ↦ (let there : holds (numbers_by first g) z ≡ true = rw (q, same) at k in let (w, i) = holds_from first g z there in f.inside w z i)
-        | inr m ↦ h.inside p z (rw (other p m) at k)
+        | inl q ↦ (let (w, i) = holds_from first g z (sym (held z (ap (neighbours_at (slice_set next x n)) q ∙ same)) ∙ k) in f.inside w z i)
+        | inr m ↦ h.inside p z (sym (held z (other p m)) ∙ k)
       ];
       is = λ p z w l c d hp hz none. elim (cases_eq p x) [
-        | inl q ↦ rw (q, same) (holds_by first g w z (sym (has_here gates x g w e) ∙ (ap (λ (i : ℕ). has_at gates i w) (sym q) ∙ hp)) (f.is w z (omega (arith, c, q)) d hz (λ i m o. none i (omega (arith, m, q)) o)))
-        | inr m ↦ rw (other p m) (h.is p z w (omega (arith, l, m)) c d hp hz none)
+        | inl q ↦ held z (ap (neighbours_at (slice_set next x n)) q ∙ same) ∙ (holds_by first g w z (sym (has_here gates x g w e) ∙ (ap (λ (i : ℕ). has_at gates i w) (sym q) ∙ hp)) (f.is w z (omega (arith, c, q)) d hz (λ i m o. none i (omega (arith, m, q)) o)))
+        | inr m ↦ held z (other p m) ∙ (h.is p z w (omega (arith, l, m)) c d hp hz none)
       ];
     }
+  where
+    held : {a b : Neighbours} (z : ℕ) → a ≡ b → holds a z ≡ holds b z
+    held z e = ap (λ (near : Neighbours). holds near z) e
 
 pub next_done : (gates : List Gate) (x : ℕ) (next : List Marks) → x ≤ 0 → length next ≡ length gates → IsNext gates x next → AreNext gates next
 next_done gates x next l many h = record {

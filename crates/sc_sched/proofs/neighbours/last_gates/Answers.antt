@@ -7,8 +7,8 @@ use Rattle.sc_sched.proofs.neighbours.last_gates.Goals as goal
 
 pub pack-requires : goal.pack-requires
 pack-requires c = λ z k.
-    let b = held_below (number_at c.loop-x.table) _ (length c.args.gates.now) (λ w q e. (let r : IsLastOn c.args.gates.now w c.loop-x.x q = last_is c.args.gates.now w c.loop-x.x q (sym (c.loop-x.invariant.table w) ∙ e) in
-    omega (arith, r.below, c.loop-x-test.true))) z (rw c.of.ensures at k) in
+    let b = held_below (number_at c.loop-x.table) _ _ _ _ (length c.args.gates.now) c.of.ensures (λ w q e. (let r : IsLastOn c.args.gates.now w c.loop-x.x q = last_is c.args.gates.now w c.loop-x.x q (sym (c.loop-x.invariant.table w) ∙ e) in
+    omega (arith, r.below, c.loop-x-test.true))) z k in
     omega (arith, b, c.requires)
 
 pub loop-x-preserved : goal.loop-x-preserved

@@ -7,7 +7,7 @@ use Rattle.sc_sched.proofs.neighbours.next_gates.Goals as goal
 
 pub pack-requires : goal.pack-requires
 pack-requires c = λ z k.
-    let b = held_below (number_at c.loop-x.table) _ (length c.args.gates.now) c.loop-x.invariant.first.inside z (rw c.of.ensures at k) in
+    let b = held_below (number_at c.loop-x.table) _ _ _ _ (length c.args.gates.now) c.of.ensures c.loop-x.invariant.first.inside z k in
     omega (arith, b, c.requires)
 
 pub loop-x-preserved : goal.loop-x-preserved
