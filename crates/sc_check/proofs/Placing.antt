@@ -8,7 +8,7 @@ use Rattle.std.proofs.lemmas.List.{length-take}
 use Rattle.std.proofs.Math.Seq.{take-suc, take-append_seam}
 use Rattle.std.proofs.lemmas.List.Sums.{count_by_more_yes, count_by_more_no, sum_by_more, sum_by-append}
 use Rattle.sc_sched.specs.Legal.{Step, stands_in, placed, times_in, times_placed, step_of}
-use Rattle.sc_sched.proofs.StepNumbers.{placed_some, placed_none, step_of_old, step_of_new}
+use Rattle.sc_sched.proofs.StepNumbers.{times_none, placed_some, placed_none, step_of_old, step_of_new}
 use Rattle.sc_check.specs.Places.{marked, marked_times, standing, found_at}
 use Rattle.sc_check.specs.declared.places.Stands.{Stands}
 use Rattle.sc_check.specs.declared.places.Stands.TheVariants.{Nowhere, Once, Again}
