@@ -1,9 +1,11 @@
 #!/usr/bin/env python3
-"""Times `schedule` at a quarter, a half and all of 4,194,304 gates, with its peak memory.
+"""Times `schedule` at a quarter, a half and all of 4,194,304 gates, and `read_schedule` at texts of up to 128 MiB,
+with the peak memory.
 
 usage: bench/schedule.py [CASE..]
-Builds a program in a folder that it drops again, on copies of sc_base, sc_gate and sc_sched. The cases are the names in
-CASES, by default all of them. `gates` makes the gates and no schedule: what it takes is part of each other case.
+Builds a program in a folder that it drops again, on copies of sc_base, sc_gate, sc_sched and sc_check. The cases are the names
+in CASES and TEXTS, by default all of them. `gates` makes the gates and no schedule: what it takes is part of each other case.
+A case of a text makes the text first; one that ends with `made` does no more.
 """
 import os, shutil, subprocess, sys, tempfile, time
 from pathlib import Path
@@ -36,12 +38,23 @@ CASES = {
     'picked_angles_4_4': ('picked_angles', 4, 4, 'rcp'),
 }
 
-MAIN_RT = '''//! Makes gates of a form, and their schedule: the words are the form, the number of gates, k, d and the order.
+# The greatest number of steps, and one of them.
+TEXTS = {
+    'one_gate_steps_made': (9586900, 'step;region 0;', 'gates'),
+    'one_gate_steps': (9586900, 'step;region 0;'),
+    'empty_steps': (26843500, 'step;'),
+    'long_numbers': (4793400, 'step;region 0 4194303 1000000;'),
+    'wide_steps': (134000, 'step;' + 110 * 'region 1;'),
+}
+
+MAIN_RT = r'''//! Makes gates of a form, and their schedule: the words are the form, the number of gates, k, d and the order. Or reads a text:
+//! the words are `text`, the number of steps, a step with `;` for a line feed, and `gates` where the text is only made.
 #![tactic(auto)]
 
 use sc_base::{Class, Fixed};
 use sc_gate::{Gate, Kind, Times, Wire};
-use sc_sched::{Lpfs, Rcp, schedule};
+use sc_check::read_schedule;
+use sc_sched::{Lpfs, Plan, Rcp, schedule};
 use std::alloc::{AllocError, Global};
 use std::env;
 use std::process::ExitCode;
@@ -114,8 +127,10 @@ fn make(alloc: Global, form: &str, count: u32) -> Result<Vec<Gate>, AllocError> 
 /// A turn of the kit's hasher: its state after a number of so many bytes.
 fn fold(state: u64, number: u64, size: u64) -> u64 {
     let factor = 0x9e37_79b9_7f4a_7c15u64 ^ (2 * size.min(8));
-    let product = ((state ^ number) as u128).wrapping_mul(factor as u128);
-    (product & 0xFFFF_FFFF_FFFF_FFFF) as u64 ^ (product >> 64) as u64
+    let product = u128::from(state ^ number).wrapping_mul(u128::from(factor));
+    let low = u64::try_from(product & 0xFFFF_FFFF_FFFF_FFFF).unwrap_or(0);
+    let high = u64::try_from(product >> 64).unwrap_or(0);
+    low ^ high
 }
 
 /// Whether the kit's hash map would begin its look-up in one group of 256, for a wire's number or an angle of Rz.
@@ -157,17 +172,42 @@ fn make_form(alloc: Global, form: &str, count: u32) -> Result<Vec<Gate>, AllocEr
     }
 }
 
-/// Whether there is a schedule, by LPFS or RCP.
-fn has_schedule(alloc: Global, gates: &[Gate], k: u32, d: u32, by_through: bool) -> bool {
+/// The schedule by LPFS or RCP.
+fn schedule_by(alloc: Global, gates: &[Gate], k: u32, d: u32, by_through: bool) -> Option<Plan> {
+    if k < 1 || d < 1 {
+        return None;
+    }
     let times = Times::ones();
-    if k == 0 || d == 0 {
+    if by_through {
+        schedule(alloc, gates, k, d, &Lpfs, &times).ok()
+    } else {
+        schedule(alloc, gates, k, d, &Rcp, &times).ok()
+    }
+}
+
+/// Whether there is a schedule; where k is 0, whether there are gates.
+fn has_schedule(alloc: Global, gates: &[Gate], k: u32, d: u32, order: &str) -> bool {
+    if k == 0 {
         return gates.len() > 0;
     }
-    if by_through {
-        schedule(alloc, gates, k, d, &Lpfs, &times).is_ok()
-    } else {
-        schedule(alloc, gates, k, d, &Rcp, &times).is_ok()
+    schedule_by(alloc, gates, k, d, order == "lpfs").is_some()
+}
+
+fn push_all(text: &mut Vec<u8>, more: &[u8]) -> Result<(), AllocError> {
+    for byte in more {
+        text.push(*byte)?;
     }
+    Ok(())
+}
+
+fn make_text(alloc: Global, step: &str, head: &str, count: u32) -> Result<Vec<u8>, AllocError> {
+    let mut text = Vec::with_capacity(alloc, 134_217_728)?;
+    push_all(&mut text, head.as_bytes())?;
+    for _ in 0..count {
+        push_all(&mut text, step.as_bytes())?;
+    }
+    push_all(&mut text, b"end\n")?;
+    Ok(text)
 }
 
 /// A word as a number; 0 where it is none.
@@ -194,15 +234,34 @@ fn read_args(rt: &HostRuntime) -> Option<Vec<String>> {
     Some(words)
 }
 
+/// Reads a text of so many steps, each of them `step` with `;` for a line feed.
+fn has_text(rt: &HostRuntime, words: &[String]) -> bool {
+    let Ok(step) = word(words, 3).replace(rt.alloc(), ";", "\n") else {
+        return false;
+    };
+    let Ok(head) = format!(in rt.alloc(); "sched 1\nregions 1\nwidth 1\ngates 4194304\nsteps {}\n", number(words, 2)) else {
+        return false;
+    };
+    let Ok(text) = make_text(rt.alloc(), &step, &head, number(words, 2)) else {
+        return false;
+    };
+    if text.len() > 134_217_728 {
+        return false;
+    }
+    word(words, 4) == "gates" || read_schedule(rt.alloc(), text.as_slice(), 4194304).is_ok()
+}
+
 fn main(rt: HostRuntime) -> ExitCode {
     let Some(words) = read_args(&rt) else {
         return ExitCode::from(3);
     };
+    if word(&words, 1) == "text" {
+        return ExitCode::from(if has_text(&rt, &words) { 0 } else { 1 });
+    }
     let Ok(gates) = make_form(rt.alloc(), word(&words, 1), number(&words, 2)) else {
         return ExitCode::from(2);
     };
-    let by_through = word(&words, 5) == "lpfs";
-    if has_schedule(rt.alloc(), &gates, number(&words, 3), number(&words, 4), by_through) {
+    if has_schedule(rt.alloc(), &gates, number(&words, 3), number(&words, 4), word(&words, 5)) {
         ExitCode::from(0)
     } else {
         ExitCode::from(1)
@@ -220,14 +279,14 @@ def measure(program, words):
 
 
 def main():
-    names = sys.argv[1:] or list(CASES)
+    names = sys.argv[1:] or [*CASES, *TEXTS]
     with tempfile.TemporaryDirectory() as folder:
         folder = Path(folder)
         crates = folder / 'crates'
-        for name in ('sc_base', 'sc_gate', 'sc_sched'):
+        for name in ('sc_base', 'sc_gate', 'sc_sched', 'sc_check'):
             shutil.copytree(top / 'crates' / name, crates / name, ignore=shutil.ignore_patterns('out'))
         (folder / 'HANDLES').write_text((top / 'HANDLES').read_text())
-        (folder / 'crates.txt').write_text('sc_base: itoa\nsc_gate: sc_base itoa\nsc_sched: sc_base sc_gate itoa\nsteps: sc_base sc_gate sc_sched\n')
+        (folder / 'crates.txt').write_text('sc_base: itoa\nsc_gate: sc_base itoa\nsc_sched: sc_base sc_gate\nsc_check: sc_base sc_gate sc_sched\nsteps: sc_base sc_gate sc_sched sc_check\n')
         (crates / 'steps/src').mkdir(parents=True)
         (crates / 'steps/src/main.rt').write_text(MAIN_RT)
         built = subprocess.run(['rt', 'run'], cwd=crates / 'steps', capture_output=True, text=True)
@@ -235,9 +294,11 @@ def main():
         if not program.exists():
             sys.exit(built.stdout + built.stderr)
         for name in names:
-            form, k, d, order = CASES[name]
-            for count in (MOST // 4, MOST // 2, MOST):
-                status, busy, took, peak = measure(program, (form, count, k, d, order))
+            is_text = name in TEXTS
+            most = TEXTS[name][0] if is_text else MOST
+            for count in (most // 4, most // 2, most):
+                words = ('text', count, *TEXTS[name][1:]) if is_text else (CASES[name][0], count, *CASES[name][1:])
+                status, busy, took, peak = measure(program, words)
                 print(f'{name} {count}: status {status}, {busy:.2f} s of processor time, {took:.2f} s, peak {peak} MiB', flush=True)
 
 

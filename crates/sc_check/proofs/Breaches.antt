@@ -14,6 +14,7 @@ use Rattle.sc_sched.specs.Legal.{Region, Step, placed, times_placed, step_of, Is
 use Rattle.sc_sched.proofs.Build.{search_below}
 use Rattle.sc_sched.proofs.SharedWires.{some_below_any}
 use Rattle.sc_sched.proofs.Count.{and_left, and_right}
+use Rattle.sc_sched.proofs.StepNumbers.{placed_some, placed_none, placed_once}
 use Rattle.sc_check.specs.declared.finding.Finding.{Finding}
 use Rattle.sc_check.specs.declared.finding.Finding.TheVariants.{Legal, Missing, Twice, Early, TooManyRegions, TooWideRegion, MixedKinds}
 use Rattle.sc_check.specs.declared.places.Stands.{Stands}
@@ -21,7 +22,6 @@ use Rattle.sc_check.specs.declared.places.Stands.TheVariants.{Nowhere}
 use Rattle.sc_check.specs.Places.{standing, found_at, lowest, is_nowhere, is_again}
 use Rattle.sc_check.specs.Early.{once_in, step_at, early_by}
 use Rattle.sc_check.specs.Finding.{lowest_step, is_missing, is_twice, is_early, has_many_regions, is_wide, has_wide_region, other_kind, is_mixed, has_mixed_kinds, first_breach, finding}
-use Rattle.sc_check.proofs.Placing.{placed_some, placed_none}
 use Rattle.sc_check.proofs.Lowest.{lowest_none, lowest_found, lowest_same, step_none, none_passes}
 use Rattle.sc_check.proofs.TooEarly.{goes_before}
 use Rattle.sc_check.proofs.MixedKinds.{same_from, mixed_none}
@@ -164,7 +164,7 @@ legal_from gates s inside e =
     }
 
 not_placed_none : (steps : List Step) (x : ℕ) → times_placed steps x ≡ 1 → is_missing steps x ≡ false
-not_placed_none steps x e = elim (cases_Bool (placed steps x)) [ inl t ↦ rw t refl | inr f ↦ (let z : times_placed steps x ≡ 0 = placed_none steps x f in absurd (omega (arith, e, z))) ]
+not_placed_none steps x e = rw (placed_once steps x e) refl
 
 not_mixed : (gates : List Gate) (region : Region) → All (λ x. x < length gates) region →
     ((x y : ℕ) → Contains region x → Contains region y → kind_at gates x ≡ kind_at gates y) → is_mixed gates region ≡ false

@@ -6,8 +6,9 @@ use Rattle.std.proofs.lemmas.Bool.{false≢true, cases_Bool}
 use Rattle.std.proofs.lemmas.List.Folds.{list_any_at}
 use Rattle.sc_gate.specs.declared.gate.Kind.{Kind}
 use Rattle.sc_gate.specs.declared.gate.Gate.{Gate}
-use Rattle.sc_sched.specs.Gates.{kind_of, kind_at, same_kind}
-use Rattle.sc_sched.proofs.SameKind.{same_kind-true, same_kind-refl}
+use Rattle.sc_gate.specs.SameGates.{same_kind}
+use Rattle.sc_sched.specs.Gates.{kind_of, kind_at}
+use Rattle.sc_gate.proofs.SameGates.{same_kind-true, same_kind-refl}
 use Rattle.sc_check.specs.Finding.{other_kind, is_mixed}
 use Rattle.sc_check.proofs.Lowest.{none_passes}
 

@@ -1,13 +1,14 @@
 -- Where positions stand, as regions, steps and schedules are gone through.
-use Rattle.std.proofs.Common.{◌≡◌, ◌≢◌, ℕ, zero, suc, ◌+◌, ◌<◌, Bool, true, false, cond, List, [], ◌∷◌, ◌++◌, length, get_or, take, set, refl, sym, ap, ◌∙◌, arith, inl, inr, add-one, add-zero, zero-add, add-suc}
+use Rattle.std.proofs.Common.{◌≡◌, ◌≢◌, ℕ, zero, suc, ◌+◌, ◌<◌, true, false, List, [], ◌∷◌, ◌++◌, length, get_or, take, set, refl, sym, ap, ◌∙◌, arith, inl, inr, add-one, add-zero, zero-add, add-suc}
 use Rattle.std.specs.Prelude.{◌==◌}
-use Rattle.std.specs.List.{list_any, sum_by, count_by}
+use Rattle.std.specs.List.{count_by}
 use Rattle.std.proofs.lemmas.Bool.{false≢true, cases_Bool, eqb-true, eq-eqb}
 use Rattle.std.proofs.lemmas.List.{get_or-set_same, get_or-set_other}
 use Rattle.std.proofs.lemmas.List.{length-take}
 use Rattle.std.proofs.Math.Seq.{take-suc, take-append_seam}
-use Rattle.std.proofs.lemmas.List.Sums.{count_by_more_yes, count_by_more_no, sum_by_more, sum_by-append, sum_by-cons}
+use Rattle.std.proofs.lemmas.List.Sums.{count_by_more_yes, count_by_more_no, sum_by_more, sum_by-append}
 use Rattle.sc_sched.specs.Legal.{Step, stands_in, placed, times_in, times_placed, step_of}
+use Rattle.sc_sched.proofs.StepNumbers.{times_none, placed_some, placed_none, step_of_old, step_of_new}
 use Rattle.sc_check.specs.Places.{marked, marked_times, standing, found_at}
 use Rattle.sc_check.specs.declared.places.Stands.{Stands}
 use Rattle.sc_check.specs.declared.places.Stands.TheVariants.{Nowhere, Once, Again}
@@ -42,41 +43,6 @@ step_more places new step p old regions region i l is e inv =
     ∙ (sym (marked_times-add old step (times_in p (take i regions)) (count_by (λ y. y == p) region))
     ∙ ap (marked_times old step) (ap (λ (r : List ℕ). times_in p (take i regions) + count_by (λ y. y == p) r) is
     ∙ sym (sum_by_more (λ region. count_by (λ y. y == p) region) regions i region l))))
-
-sums_some : {A : Type 0} (f : A → ℕ) (p : A → Bool) → ((x : A) → p x ≡ true → 0 < f x) → (xs : List A) → list_any p xs ≡ true → 0 < sum_by f xs
-sums_some f p g [] h = absurd (false≢true h)
-sums_some f p g (x ∷ xs) h = rw sum_by-cons (elim (cases_Bool (p x)) [ inl t ↦ (let a : 0 < f x = g x t in omega arith) | inr e ↦ (let a : 0 < sum_by f xs = sums_some f p g xs (rw e at h) in omega arith) ])
-
-sums_none : {A : Type 0} (f : A → ℕ) (p : A → Bool) → ((x : A) → p x ≡ false → f x ≡ 0) → (xs : List A) → list_any p xs ≡ false → sum_by f xs ≡ 0
-sums_none f p g [] h = refl
-sums_none f p g (x ∷ xs) h = rw sum_by-cons (elim (cases_Bool (p x)) [ inl t ↦ absurd (false≢true (sym (rw t at h))) | inr e ↦ (let a : sum_by f xs ≡ 0 = sums_none f p g xs (rw e at h) in let b : f x ≡ 0 = g x e in omega arith) ])
-
-counts_some : {A : Type 0} (p : A → Bool) (xs : List A) → list_any p xs ≡ true → 0 < count_by p xs
-counts_some p xs h = sums_some (λ x. cond (p x) 1 0) p (λ x e. rw e (omega arith)) xs h
-
-counts_none : {A : Type 0} (p : A → Bool) (xs : List A) → list_any p xs ≡ false → count_by p xs ≡ 0
-counts_none p xs h = sums_none (λ x. cond (p x) 1 0) p (λ x e. rw e refl) xs h
-
--- it stands where it is counted
-pub times_some : (step : Step) (x : ℕ) → stands_in step x ≡ true → 0 < times_in x step
-times_some step x h = sums_some (λ region. count_by (λ y. y == x) region) _ (λ region. counts_some (λ y. y == x) region) step h
-
-pub times_none : (step : Step) (x : ℕ) → stands_in step x ≡ false → times_in x step ≡ 0
-times_none step x h = sums_none (λ region. count_by (λ y. y == x) region) _ (λ region. counts_none (λ y. y == x) region) step h
-
-pub placed_some : (steps : List Step) (x : ℕ) → placed steps x ≡ true → 0 < times_placed steps x
-placed_some steps x h = sums_some (times_in x) (λ step. stands_in step x) (λ step. times_some step x) steps h
-
-pub placed_none : (steps : List Step) (x : ℕ) → placed steps x ≡ false → times_placed steps x ≡ 0
-placed_none steps x h = sums_none (times_in x) (λ step. stands_in step x) (λ step. times_none step x) steps h
-
-pub step_of_old : (xs ys : List Step) (x : ℕ) → placed xs x ≡ true → step_of (xs ++ ys) x ≡ step_of xs x
-step_of_old [] ys x h = absurd (false≢true h)
-step_of_old (s ∷ xs) ys x h = elim (cases_Bool (stands_in s x)) [ inl t ↦ rw t refl | inr f ↦ rw f (ap suc (step_of_old xs ys x (rw f at h))) ]
-
-pub step_of_new : (xs ys : List Step) (x : ℕ) → placed xs x ≡ false → step_of (xs ++ ys) x ≡ length xs + step_of ys x
-step_of_new [] ys x h = sym (zero-add _)
-step_of_new (s ∷ xs) ys x h = elim (cases_Bool (stands_in s x)) [ inl t ↦ absurd (false≢true (sym (rw t at h))) | inr f ↦ (let a : step_of (xs ++ ys) x ≡ length xs + step_of ys x = step_of_new xs ys x (rw f at h) in rw f (omega arith)) ]
 
 again_stays : (s n : ℕ) → marked_times Again s n ≡ Again
 again_stays s zero = refl

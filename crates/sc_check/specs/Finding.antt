@@ -4,7 +4,8 @@ use Rattle.std.specs.List.{list_any, sum_by}
 use Rattle.sc_gate.specs.declared.gate.Gate.{Gate}
 use Rattle.sc_sched.specs.declared.plan.Plan.{Plan}
 use Rattle.sc_gate.specs.declared.gate.Kind.{Kind}
-use Rattle.sc_sched.specs.Gates.{arity_at, kind_at, same_kind}
+use Rattle.sc_gate.specs.SameGates.{same_kind}
+use Rattle.sc_sched.specs.Gates.{arity_at, kind_at}
 use Rattle.sc_sched.specs.Legal.{Region, Step, placed, times_placed, step_of}
 use Rattle.sc_check.specs.Places.{lowest}
 use Rattle.sc_check.specs.Early.{early_by}

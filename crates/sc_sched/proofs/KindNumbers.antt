@@ -9,10 +9,11 @@ use Rattle.std.proofs.lemmas.Option.{same_Some}
 use Rattle.sc_gate.specs.declared.gate.Kind.{Kind}
 use Rattle.sc_gate.specs.declared.gate.Gate.{Gate}
 use Rattle.sc_gate.specs.Gates.{name_of, qubits_of}
-use Rattle.sc_sched.specs.Gates.{kind_at, same_kind}
+use Rattle.sc_gate.specs.SameGates.{same_kind}
+use Rattle.sc_sched.specs.Gates.{kind_at}
 use Rattle.sc_sched.specs.Numbering.{AreNumbered, IsTableOf}
 use Rattle.sc_sched.proofs.Count.{lt_cases}
-use Rattle.sc_sched.proofs.SameKind.{same_kind-true, same_kind-refl}
+use Rattle.sc_gate.proofs.SameGates.{same_kind-true, same_kind-refl}
 use Rattle.sc_sched.proofs.Lawful.{arity_of_kind}
 
 -- the number n of the kind k, which the next gate has, beside the numbers of the gates before

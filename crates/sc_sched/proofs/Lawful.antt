@@ -11,13 +11,15 @@ use Rattle.sc_base.specs.declared.names.GateName.TheVariants.{Cnot, Toffoli, Fre
 use Rattle.sc_gate.specs.declared.gate.Kind.{Kind}
 use Rattle.sc_gate.specs.declared.gate.Gate.{Gate}
 use Rattle.sc_gate.specs.Gates.{name_of, qubits_of}
-use Rattle.sc_sched.specs.Gates.{arity_of, arity_at, kind_of, kind_at, same_kind}
+use Rattle.sc_gate.specs.SameGates.{same_kind}
+use Rattle.sc_sched.specs.Gates.{arity_of, arity_at, kind_of, kind_at}
 use Rattle.sc_sched.specs.Legal.{Region, Step, stands_in, placed, step_of, IsLegal}
 use Rattle.sc_sched.specs.Step.{IsShop, IsOrder}
 use Rattle.sc_sched.specs.Schedule.{IsPriority}
 use Rattle.sc_sched.specs.PrioritySchedules.{first_like, kind_names, room_for, rooms, shop_of_gates, NoneIsWider, IsPrioritySchedule, IsRankOrder}
-use Rattle.sc_sched.proofs.SameKind.{same_kind-true, same_kind-refl}
+use Rattle.sc_gate.proofs.SameGates.{same_kind-true, same_kind-refl}
 use Rattle.sc_sched.proofs.RegionLemmas.{IsRegion, cut_regions}
+use Rattle.sc_sched.proofs.StepNumbers.{placed_before}
 use Rattle.sc_sched.proofs.Legal.{narrow, in_order}
 use Rattle.sc_sched.proofs.Once.{once}
 use Rattle.sc_sched.proofs.Build.{build, some_schedule}
@@ -65,11 +67,11 @@ names_kind gates x l =
     position_is : (test : Gate → Bool) (gates : List Gate) → position_or_len test gates < length gates → position test gates ≡ Some (position_or_len test gates)
     position_is test gates b = rw (lt-ltb (position_or_len test gates) (length gates) b) refl
 
-arity_or : Option Kind → ℕ
+pub arity_or : Option Kind → ℕ
 arity_or None = 0
 arity_or (Some k) = qubits_of (name_of k)
 
-arity_by_kind : (gates : List Gate) (x : ℕ) → arity_at gates x ≡ arity_or (kind_at gates x)
+pub arity_by_kind : (gates : List Gate) (x : ℕ) → arity_at gates x ≡ arity_or (kind_at gates x)
 unfolding arity_or
 arity_by_kind [] x = refl
 arity_by_kind (h ∷ gates) zero = refl
@@ -137,13 +139,6 @@ first_in (s ∷ steps) x h = elim (cases_Bool (stands_in s x)) [
   | inl t ↦ record { earlier = []; step = s; later = steps; is = refl; stands = t; number = rw t refl }
   | inr f ↦ (let r : FirstIn steps x = first_in steps x (rw f at h) in
       record { earlier = s ∷ r.earlier; step = r.step; later = r.later; is = ap (λ (z : List Step). s ∷ z) r.is; stands = r.stands; number = rw f (ap suc r.number) })
-]
-
-placed_before : (earlier later : List Step) (x : ℕ) → placed earlier x ≡ true → step_of (earlier ++ later) x < length earlier
-placed_before [] later x h = absurd (false≢true h)
-placed_before (s ∷ earlier) later x h = elim (cases_Bool (stands_in s x)) [
-  | inl t ↦ rw t (omega arith)
-  | inr f ↦ (let r : step_of (earlier ++ later) x < length earlier = placed_before earlier later x (rw f at h) in rw f (omega (arith, r)))
 ]
 
 sum_alike : (f : ℕ → ℕ) (a : ℕ) (xs : List ℕ) → All (λ y. f y ≡ a) xs → sum_by f xs ≡ length xs * a

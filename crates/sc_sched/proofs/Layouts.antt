@@ -7,7 +7,8 @@ use Rattle.std.proofs.Math.ListN.{get_or-eq_default}
 use Rattle.std.proofs.lemmas.Option.{same_Some}
 use Rattle.sc_gate.specs.declared.gate.Kind.{Kind}
 use Rattle.sc_gate.specs.declared.gate.Gate.{Gate}
-use Rattle.sc_sched.specs.Gates.{arity_at, kind_of, kind_at, same_kind}
+use Rattle.sc_gate.specs.SameGates.{same_kind}
+use Rattle.sc_sched.specs.Gates.{arity_at, kind_of, kind_at}
 use Rattle.sc_sched.specs.Layout.{IsLayout}
 use Rattle.sc_sched.specs.Laid.{IsLaid}
 use Rattle.sc_sched.specs.Numbering.{AreNumbered}

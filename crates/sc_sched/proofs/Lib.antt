@@ -11,13 +11,14 @@ pub mod Legal
 pub mod Open
 pub mod Once
 pub mod Shops
-pub mod SameKind
 pub mod SharedWires
-pub mod TextLemmas
 pub mod RegionLemmas
 pub mod OneSchedule
+pub mod StepNumbers
 pub mod Lawful
 pub mod StepLaws
+pub mod InSequence
+pub mod Renamed
 pub mod SomeRank
 pub mod LaidSteps
 pub mod Grouping

@@ -6,12 +6,14 @@ use Rattle.std.proofs.lemmas.List.{get_or-set_same, get_or-set_other, get_or_app
 use Rattle.std.proofs.lemmas.Option.{slice_get-get_or}
 use Rattle.sc_sched.proofs.Free.{fun_same}
 use Rattle.sc_gate.specs.declared.gate.Wire.{Wire}
+use Rattle.sc_gate.specs.declared.gate.Kind.TheVariants.{X}
 use Rattle.sc_gate.specs.declared.gate.Gate.{Gate}
 use Rattle.sc_gate.specs.Gates.{operands}
 use Rattle.sc_gate.specs.Wires.{member}
 use Rattle.sc_gate.proofs.WireLemmas.{member_here, member_later, member_cases}
 use Rattle.sc_sched.specs.declared.neighbours.Neighbours.{Neighbours}
-use Rattle.sc_sched.specs.Neighbours.{on_wire, numbers_by, none_or, each, is_number, holds, neighbours_at, AreNext}
+use Rattle.sc_sched.specs.declared.neighbours.Marks.{Marks}
+use Rattle.sc_sched.specs.Neighbours.{on_wire, numbers_by, none_or, each, is_number, holds, unmarked, neighbours_at, AreNext}
 use Rattle.sc_sched.proofs.Count.{and_left, and_right, both, either, or_left, or_right}
 use Rattle.sc_gate.specs.LastGates.{has_wire, last_on, has_at, IsLastOn}
 use Rattle.sc_gate.proofs.LastOn.{last_is}
@@ -22,7 +24,7 @@ pub record IsFirst (gates : List Gate) (x : ℕ) (first : Wire → Option ℕ) :
   pub is : (w : Wire) (z : ℕ) → x ≤ z → z < length gates → has_at gates z w ≡ true → ((q : ℕ) → x ≤ q → q < z → has_at gates q w ≡ false) → first w ≡ Some z
 
 -- the gates from x on have the first gates after them
-pub record IsNext (gates : List Gate) (x : ℕ) (next : List Neighbours) : Type 0 where
+pub record IsNext (gates : List Gate) (x : ℕ) (next : List Marks) : Type 0 where
   pub inside : (p z : ℕ) → holds (neighbours_at next p) z ≡ true → z < length gates
   pub is : (p z : ℕ) (w : Wire) → x ≤ p → p < z → z < length gates → has_at gates p w ≡ true → has_at gates z w ≡ true → ((q : ℕ) → p < q → q < z → has_at gates q w ≡ false) → holds (neighbours_at next p) z ≡ true
 
@@ -149,6 +151,13 @@ holds_from f g z h = elim (either (is_number (f g.a) z) _ h) [
   ]
 ]
 
+-- the numbers are below what those of the wires are below
+pub held_below : (f : Wire → Option ℕ) (a : Wire) (b c : Option Wire) (n : Neighbours) (m : ℕ) → n ≡ (record { a = f a; b = on_wire f b; c = on_wire f c }) →
+    ((w : Wire) (z : ℕ) → f w ≡ Some z → z < m) → (z : ℕ) → holds n z ≡ true → z < m
+held_below f a b c n m e h z k =
+    let (w, i) = holds_from f (record { kind = X; a = a; b = b; c = c }) z (sym (ap (λ (near : Neighbours). holds near z) e) ∙ k) in
+    h w z i
+
 pub has_here : (gates : List Gate) (x : ℕ) (gate : Gate) (w : Wire) → slice_get gates x ≡ Some gate → has_at gates x w ≡ member w (operands gate)
 has_here gates x gate w e = ap (λ (o : Option Gate). has_wire o w) e
 
@@ -167,15 +176,15 @@ pub last_more : (gates : List Gate) (x : ℕ) (d : Gate) (w : Wire) (now old : O
     now ≡ (if member w (operands (get_or gates x d)) then Some x else old) → old ≡ last_on gates w x → now ≡ last_on gates w (x + 1)
 last_more gates x d w now old l e is = rw add-one (rw (has_here gates x (get_or gates x d) w (slice_get-get_or gates x d l)) (e ∙ ap (λ (o : Option ℕ). if member w (operands (get_or gates x d)) then Some x else o) is))
 
-pub last_pushed : (gates : List Gate) (x : ℕ) (d : Gate) (table : Wire → Option ℕ) (last last' : List Neighbours) (n : Neighbours) → x < length gates → length last ≡ x →
-    last' ≡ last ++ n ∷ [] → n ≡ numbers_by table (get_or gates x d) → ((w : Wire) → table w ≡ last_on gates w x) →
+pub last_pushed : (gates : List Gate) (x : ℕ) (d : Gate) (table : Wire → Option ℕ) (last last' : List Marks) (n : Marks) → x < length gates → length last ≡ x →
+    last' ≡ last ++ n ∷ [] → unmarked n ≡ numbers_by table (get_or gates x d) → ((w : Wire) → table w ≡ last_on gates w x) →
     ((y : ℕ) (gate : Gate) → y < x → slice_get gates y ≡ Some gate → neighbours_at last y ≡ numbers_by (λ w. last_on gates w y) gate) →
     (y : ℕ) (gate : Gate) → y < x + 1 → slice_get gates y ≡ Some gate → neighbours_at last' y ≡ numbers_by (λ w. last_on gates w y) gate
 last_pushed gates x d table last last' n b many e is t h y gate l g = elim (cases_lt y x) [
-  | inl k ↦ rw e (get_or_append_left last (n ∷ []) _ y (omega (arith, k, many)) ∙ h y gate k g)
+  | inl k ↦ rw e (ap unmarked (get_or_append_left last (n ∷ []) _ y (omega (arith, k, many))) ∙ h y gate k g)
   | inr k ↦ (let q : y ≡ x = omega (arith, l, k) in
       let same : get_or gates x d ≡ gate = gate_same _ _ (sym (slice_get-get_or gates x d b) ∙ (ap (slice_get gates) (sym q) ∙ g)) in
-      let here : neighbours_at (last ++ n ∷ []) y ≡ n = get_or-append_right last (n ∷ []) x y _ many k ∙ ap (λ (i : ℕ). neighbours_at (n ∷ []) i) (less y x q) in
+      let here : neighbours_at (last ++ n ∷ []) y ≡ unmarked n = ap unmarked (get_or-append_right last (n ∷ []) x y _ many k) ∙ ap (λ (i : ℕ). neighbours_at (n ∷ []) i) (less y x q) in
       rw e (here ∙ (is ∙ (ap (numbers_by table) same ∙ ap (λ (f : Wire → Option ℕ). numbers_by f gate) (fun_same table (λ w. last_on gates w y) (λ w. t w ∙ ap (last_on gates w) (sym q)))))))
 ]
   where
@@ -196,23 +205,26 @@ first_more gates x g first first' b e is h = record {
   ];
 }
 
-pub next_more : (gates : List Gate) (x : ℕ) (g : Gate) (first : Wire → Option ℕ) (next : List Neighbours) (n : Neighbours) → slice_get gates x ≡ Some g → x < length next → n ≡ numbers_by first g →
+pub next_more : (gates : List Gate) (x : ℕ) (g : Gate) (first : Wire → Option ℕ) (next : List Marks) (n : Marks) → slice_get gates x ≡ Some g → x < length next → unmarked n ≡ numbers_by first g →
     IsFirst gates (suc x) first → IsNext gates (suc x) next → IsNext gates x (slice_set next x n)
 next_more gates x g first next n e b s f h =
-    let same : neighbours_at (slice_set next x n) x ≡ numbers_by first g = get_or-set_same next x n _ b ∙ s in
-    let other : (p : ℕ) → p ≢ x → neighbours_at (slice_set next x n) p ≡ neighbours_at next p = λ p m. get_or-set_other next x p n _ m in
+    let same : neighbours_at (slice_set next x n) x ≡ numbers_by first g = ap unmarked (get_or-set_same next x n _ b) ∙ s in
+    let other : (p : ℕ) → p ≢ x → neighbours_at (slice_set next x n) p ≡ neighbours_at next p = λ p m. ap unmarked (get_or-set_other next x p n _ m) in
     record {
       inside = λ p z k. elim (cases_eq p x) [
-        | inl q ↦ (let there : holds (numbers_by first g) z ≡ true = rw (q, same) at k in let (w, i) = holds_from first g z there in f.inside w z i)
-        | inr m ↦ h.inside p z (rw (other p m) at k)
+        | inl q ↦ (let (w, i) = holds_from first g z (sym (held z (ap (neighbours_at (slice_set next x n)) q ∙ same)) ∙ k) in f.inside w z i)
+        | inr m ↦ h.inside p z (sym (held z (other p m)) ∙ k)
       ];
       is = λ p z w l c d hp hz none. elim (cases_eq p x) [
-        | inl q ↦ rw (q, same) (holds_by first g w z (sym (has_here gates x g w e) ∙ (ap (λ (i : ℕ). has_at gates i w) (sym q) ∙ hp)) (f.is w z (omega (arith, c, q)) d hz (λ i m o. none i (omega (arith, m, q)) o)))
-        | inr m ↦ rw (other p m) (h.is p z w (omega (arith, l, m)) c d hp hz none)
+        | inl q ↦ held z (ap (neighbours_at (slice_set next x n)) q ∙ same) ∙ (holds_by first g w z (sym (has_here gates x g w e) ∙ (ap (λ (i : ℕ). has_at gates i w) (sym q) ∙ hp)) (f.is w z (omega (arith, c, q)) d hz (λ i m o. none i (omega (arith, m, q)) o)))
+        | inr m ↦ held z (other p m) ∙ (h.is p z w (omega (arith, l, m)) c d hp hz none)
       ];
     }
+  where
+    held : {a b : Neighbours} (z : ℕ) → a ≡ b → holds a z ≡ holds b z
+    held z e = ap (λ (near : Neighbours). holds near z) e
 
-pub next_done : (gates : List Gate) (x : ℕ) (next : List Neighbours) → x ≤ 0 → length next ≡ length gates → IsNext gates x next → AreNext gates next
+pub next_done : (gates : List Gate) (x : ℕ) (next : List Marks) → x ≤ 0 → length next ≡ length gates → IsNext gates x next → AreNext gates next
 next_done gates x next l many h = record {
   many = many;
   inside = h.inside;

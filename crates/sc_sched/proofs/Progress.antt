@@ -8,6 +8,7 @@ use Rattle.std.proofs.lemmas.Bool.{false≢true, cases_Bool, cases_lt, eqb-true,
 use Rattle.std.proofs.lemmas.List.Folds.{list_any-append}
 use Rattle.sc_gate.specs.declared.gate.Gate.{Gate}
 use Rattle.sc_sched.specs.declared.neighbours.Neighbours.{Neighbours}
+use Rattle.sc_sched.specs.declared.neighbours.Marks.{Marks}
 use Rattle.sc_sched.specs.Gates.{shares}
 use Rattle.sc_sched.specs.Step.{count_below, Shop, IsShop, IsStep, fits, beside}
 use Rattle.sc_sched.specs.Legal.{Step, stands_in, placed}
@@ -158,12 +159,12 @@ module _ (gates : List Gate) where
       go (g ∷ gates) (suc x) l = go gates x (omega (arith, l))
 
   -- which gates are ready, by the marks of those placed and the last gates
-  pub ready_marked : (steps : List Step) (mark : ℕ → Bool) (last : List Neighbours) (x : ℕ) → x < length gates → AreLast gates last → ((y : ℕ) → y < length gates → mark y ≡ placed steps y) →
+  pub ready_marked : (steps : List Step) (mark : ℕ → Bool) (last : List Marks) (x : ℕ) → x < length gates → AreLast gates last → ((y : ℕ) → y < length gates → mark y ≡ placed steps y) →
       ((y z : ℕ) → y < z → z < length gates → shares gates y z ≡ true → placed steps z ≡ true → placed steps y ≡ true) →
       (not (mark x) && each mark (neighbours_at last x)) ≡ free_after steps x
   ready_marked steps mark last x b a same closed =
       let (g, e) = gate_there x b in
-      rw (a.is x g e, same x b) (ap (λ (v : Bool). not (placed steps x) && v)
+      ap (λ (near : Neighbours). not (mark x) && each mark near) (a.is x g e) ∙ rw (same x b) (ap (λ (v : Bool). not (placed steps x) && v)
       (each_same mark (placed steps) x g b same ∙ sym (last_tells (placed steps) x g e (λ y z l m s t. closed y z l (omega (arith, m, b)) s t))))
 
   any_stands : (p : ℕ → Bool) (xs : List ℕ) (q : ℕ) → stands xs q ≡ true → p q ≡ true → list_any p xs ≡ true
@@ -171,7 +172,7 @@ module _ (gates : List Gate) where
   any_stands p (x ∷ xs) q s h = elim (either (q == x) (stands xs q) s) [ inl e ↦ or_left _ _ (ap p (sym (eqb-true q x e)) ∙ h) | inr t ↦ or_right (p x) _ (any_stands p xs q t h) ]
 
   -- the gates that wait after a step: those that waited and are not taken, and the ready ones among the next gates
-  pub freed : (old now : ℕ → Bool) (last next : List Neighbours) (step : List ℕ) (waits waits' : Bool) (x : ℕ) → x < length gates → AreLast gates last → AreNext gates next →
+  pub freed : (old now : ℕ → Bool) (last next : List Marks) (step : List ℕ) (waits waits' : Bool) (x : ℕ) → x < length gates → AreLast gates last → AreNext gates next →
       ((y : ℕ) → y < length gates → now y ≡ (old y || stands step y)) →
       waits ≡ ((not (old x) && each old (neighbours_at last x)) && not (stands step x)) →
       waits' ≡ (waits || (list_any (λ p. holds (neighbours_at next p) x) step && (not (now x) && each now (neighbours_at last x)))) →
@@ -180,9 +181,9 @@ module _ (gates : List Gate) where
       let (g, here) = gate_there x b in
       let last_x : neighbours_at last x ≡ numbers_by (λ w. last_on gates w x) g = a.is x g here in
       let ready' : Bool = not (now x) && each now (numbers_by (λ w. last_on gates w x) g) in
-      let e' : waits ≡ ((not (old x) && each old (numbers_by (λ w. last_on gates w x) g)) && not (stands step x)) = rw last_x at e in
-      let f' : waits' ≡ (waits || (list_any (λ p. holds (neighbours_at next p) x) step && ready')) = rw last_x at f in
-      rw last_x (f' ∙ same_truth _ _
+      let e' : waits ≡ ((not (old x) && each old (numbers_by (λ w. last_on gates w x) g)) && not (stands step x)) = e ∙ ap (λ (near : Neighbours). (not (old x) && each old near) && not (stands step x)) last_x in
+      let f' : waits' ≡ (waits || (list_any (λ p. holds (neighbours_at next p) x) step && ready')) = f ∙ ap (λ (near : Neighbours). waits || (list_any (λ p. holds (neighbours_at next p) x) step && (not (now x) && each now near))) last_x in
+      let whole : waits' ≡ ready' = f' ∙ same_truth _ _
       (λ t. elim (either waits _ t) [
         | inl w ↦ (let w' : ((not (old x) && each old (numbers_by (λ w. last_on gates w x) g)) && not (stands step x)) ≡ true = sym e' ∙ w in
             let r : (not (old x) && each old (numbers_by (λ w. last_on gates w x) g)) ≡ true = and_left _ _ w' in
@@ -199,7 +200,8 @@ module _ (gates : List Gate) where
             let m : now v.number ≡ true = each_at now (λ w. last_on gates w x) g v.wire v.number (and_right (not (now x)) _ t) v.operand v.is in
             let c : stands step v.number ≡ true = right_of (old v.number) (stands step v.number) v.fails (sym (marks v.number (omega (arith, r.below, b))) ∙ m) in
             any_stands (λ p. holds (neighbours_at next p) x) step v.number c (n.found v.number x v.wire (has_here gates x g v.wire here ∙ v.operand) v.is)) t)
-      ])))
+      ])) in
+      whole ∙ sym (ap (λ (near : Neighbours). not (now x) && each now near) last_x)
     where
       not_either : (a b : Bool) → not a ≡ true → not b ≡ true → not (a || b) ≡ true
       not_either true b h k = h
@@ -265,7 +267,7 @@ module _ (gates : List Gate) (k d : ℕ) (before : ℕ → ℕ → Bool) (l : La
   placed_after step regions x b e =
       placed_step steps regions x ∙ ap (λ (v : Bool). placed steps x || v) (ap (λ (z : Step). stands_in z x) e ∙ stands_cut (shop_of l room k) (laid_shop gates k d before l room laid wide) (stands step) x (omega (arith, b, laid.many)))
 
-pub freed_after : (gates : List Gate) (steps steps' : List Step) (old now : ℕ → Bool) (last next : List Neighbours) (step : List ℕ) (waits waits' : Bool) (x : ℕ) → x < length gates → AreLast gates last → AreNext gates next →
+pub freed_after : (gates : List Gate) (steps steps' : List Step) (old now : ℕ → Bool) (last next : List Marks) (step : List ℕ) (waits waits' : Bool) (x : ℕ) → x < length gates → AreLast gates last → AreNext gates next →
     ((y : ℕ) → y < length gates → old y ≡ placed steps y) → ((y : ℕ) → y < length gates → now y ≡ (old y || stands step y)) → ((y : ℕ) → y < length gates → now y ≡ placed steps' y) →
     ((y z : ℕ) → y < z → z < length gates → shares gates y z ≡ true → placed steps z ≡ true → placed steps y ≡ true) →
     ((y z : ℕ) → y < z → z < length gates → shares gates y z ≡ true → placed steps' z ≡ true → placed steps' y ≡ true) →

@@ -1,8 +1,8 @@
 -- How many steps a priority schedule has, and that it has a text.
-use Rattle.std.proofs.Common.{◌≡◌, ℕ, zero, suc, ◌+◌, ◌<◌, ◌≤◌, Bool, true, false, not, List, [], ◌∷◌, ◌++◌, length, get_or, take, drop, refl, sym, ap, ◌∙◌, subst, arith, inl, inr, ◌⊎◌}
-use Rattle.std.specs.Prelude.{All, Contains, ◌==◌}
-use Rattle.std.specs.List.{sum_by, list_any, flat_map, filter}
-use Rattle.std.proofs.lemmas.Bool.{false≢true, cases_Bool, cases_lt, eqb-true}
+use Rattle.std.proofs.Common.{◌≡◌, ℕ, zero, suc, ◌+◌, ◌<◌, ◌≤◌, Bool, true, not, List, [], ◌∷◌, ◌++◌, length, get_or, take, drop, refl, sym, ap, ◌∙◌, subst, arith, inl, inr, ◌⊎◌}
+use Rattle.std.specs.Prelude.{All}
+use Rattle.std.specs.List.{sum_by}
+use Rattle.std.proofs.lemmas.Bool.{cases_lt}
 use Rattle.std.proofs.lemmas.List.{append_assoc}
 use Rattle.std.proofs.lemmas.List.Elements.{All-nil, All-cons}
 use Rattle.std.proofs.lemmas.List.Sums.{get_or-le-sum_by}
@@ -13,12 +13,12 @@ use Rattle.sc_sched.specs.Step.{Shop, IsShop, count_below}
 use Rattle.sc_sched.specs.Schedule.{IsPriority}
 use Rattle.sc_sched.specs.Scheduling.{IsFirstWider}
 use Rattle.sc_sched.specs.declared.plan.Plan.{Plan}
-use Rattle.sc_sched.specs.Text.{IsSize, IsWritable, HasText}
+use Rattle.sc_sched.specs.Text.{IsSize, HasText}
 use Rattle.sc_sched.specs.Schedule.{pieces, of_kind, cut}
-use Rattle.sc_sched.proofs.Count.{either}
 use Rattle.sc_sched.proofs.RegionLemmas.{all_flat}
+use Rattle.sc_sched.proofs.StepNumbers.{Spot, spot}
 use Rattle.sc_sched.proofs.Lawful.{shop_of_gates_is, split_at}
-use Rattle.sc_sched.specs.PrioritySchedules.{NoneIsWider, shop_of_gates}
+use Rattle.sc_sched.specs.PrioritySchedules.{shop_of_gates}
 use Rattle.sc_sched.proofs.Step.{count_all}
 use Rattle.sc_sched.proofs.Build.{Follows}
 use Rattle.sc_sched.proofs.Progress.{fewer_left}
@@ -58,20 +58,15 @@ cut_some : {K : Type 0} (s : Shop K) → IsShop s → (chosen : ℕ → Bool) �
 unfolding cut
 cut_some s o chosen = all_flat (λ region. 0 < length region) _ _ (λ x. pieces_some s.gates (s.room (s.kind_of x)) (of_kind s chosen (s.kind_of x)) (o.roomy (s.kind_of x)))
 
-any_at : {A : Type 0} (p : A → Bool) (xs : List A) (d : A) → list_any p xs ≡ true → (i : ℕ) × (i < length xs) × (p (get_or xs i d) ≡ true)
-any_at p [] d h = absurd (false≢true h)
-any_at p (x ∷ xs) d h = elim (either (p x) _ h) [ inl t ↦ (0, omega arith, t) | inr r ↦ (let (i, b, f) = any_at p xs d r in (suc i, omega (arith, b), f)) ]
-
 -- a gate that is placed is no wider than a region
 placed_fits : (gates : List Gate) (k d : ℕ) (steps : List Step) → IsLegal gates k d steps → (x : ℕ) → placed steps x ≡ true → arity_at gates x ≤ d
 placed_fits gates k d steps h x p =
-    let (i, b, f) = any_at (λ (step : Step). stands_in step x) steps [] p in
-    let (j, c, g) = any_at (λ (region : Region). list_any (λ y. y == x) region) (get_or steps i []) [] f in
-    let (m, e, q) = any_at (λ (y : ℕ). y == x) (get_or (get_or steps i []) j []) 0 g in
-    let narrow : sum_by (arity_at gates) (get_or (get_or steps i []) j []) ≤ d = h.narrow i [] b j [] c in
-    let here : arity_at gates (get_or (get_or (get_or steps i []) j []) m 0) ≤ sum_by (arity_at gates) (get_or (get_or steps i []) j []) = get_or-le-sum_by (arity_at gates) (get_or (get_or steps i []) j []) m 0 e in
-    let same : arity_at gates (get_or (get_or (get_or steps i []) j []) m 0) ≡ arity_at gates x = ap (arity_at gates) (eqb-true (get_or (get_or (get_or steps i []) j []) m 0) x q) in
-    omega (arith, narrow, here, same)
+    let o : Spot steps x = spot steps x p in
+    let here : Region = get_or (get_or steps o.step []) o.region [] in
+    let narrow : sum_by (arity_at gates) here ≤ d = h.narrow o.step [] o.in_steps o.region [] o.in_step in
+    let part : arity_at gates (get_or here o.place 0) ≤ sum_by (arity_at gates) here = get_or-le-sum_by (arity_at gates) here o.place 0 o.in_region in
+    let same : arity_at gates (get_or here o.place 0) ≡ arity_at gates x = ap (arity_at gates) o.is in
+    omega (arith, narrow, part, same)
 
 pub have_text : (gates : List Gate) (before : ℕ → ℕ → Bool) (s : Plan) → length gates ≤ 4194304 → s.gates ≡ length gates → IsSize s.k → IsSize s.d → IsLegal gates s.k s.d s.steps →
     IsPriority (shop_of_gates gates s.k s.d before) s.steps → HasText s

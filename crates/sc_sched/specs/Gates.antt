@@ -1,12 +1,9 @@
 -- What a schedule has to know of the gates of a list, by their positions from 0.
-use Rattle.std.specs.Prelude.{ℕ, zero, suc, ◌==◌, ◌&&◌, Bool, false, if◌then◌else◌, ℤ, pos, Option, Some, None, List, map, slice_get, slice_index}
-use Rattle.std.specs.Ordering.{int_eq}
-use Rattle.sc_gate.specs.declared.gate.Wire.{Wire}
+use Rattle.std.specs.Prelude.{ℕ, Bool, false, Option, Some, None, List, map, slice_get, slice_index}
 use Rattle.sc_gate.specs.declared.gate.Kind.{Kind}
-use Rattle.sc_gate.specs.declared.gate.Kind.TheVariants.{Rx, Ry, Rz, PrepX, PrepZ}
 use Rattle.sc_gate.specs.declared.gate.Gate.{Gate}
-use Rattle.sc_gate.specs.Gates.{name_of, place_of, qubits_of, operands}
-use Rattle.sc_gate.specs.Wires.{member, shares as share}
+use Rattle.sc_gate.specs.Gates.{name_of, qubits_of}
+use Rattle.sc_gate.specs.Wires.{shares as share}
 
 -- the number of qubits of a gate
 abbrev pub arity_of : Gate → ℕ
@@ -31,16 +28,3 @@ both_share (Some g) (Some h) = share g h
 -- the gates at two positions share a wire
 abbrev pub shares : List Gate → ℕ → ℕ → Bool
 shares gates x y = both_share (slice_get gates x) (slice_get gates y)
-
--- the angle of a rotation, 0 or 1 for the start value of a preparation, and 0 for every other kind
-abbrev pub value_of : Kind → ℤ
-value_of (Rx angle) = angle.0
-value_of (Ry angle) = angle.0
-value_of (Rz angle) = angle.0
-value_of (PrepX start) = pos (if start then 1 else 0)
-value_of (PrepZ start) = pos (if start then 1 else 0)
-value_of _ = pos 0
-
--- two kinds have the same name and the same value
-abbrev pub same_kind : Kind → Kind → Bool
-same_kind a b = (place_of (name_of a) == place_of (name_of b)) && int_eq (value_of a) (value_of b)

@@ -1,5 +1,6 @@
 pub mod Gates
 pub mod Legal
+pub mod Sequences
 pub mod Text
 pub mod WireTables
 pub mod Step

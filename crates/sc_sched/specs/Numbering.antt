@@ -6,7 +6,8 @@ use Rattle.sc_gate.specs.declared.gate.Kind.{Kind}
 use Rattle.sc_gate.specs.declared.gate.Gate.{Gate}
 use Rattle.sc_gate.specs.Gates.{name_of, place_of}
 use Rattle.sc_sched.specs.declared.kinds.KindTable.{KindTable}
-use Rattle.sc_sched.specs.Gates.{arity_at, kind_at, value_of}
+use Rattle.sc_gate.specs.SameGates.{value_of}
+use Rattle.sc_sched.specs.Gates.{arity_at, kind_at}
 
 -- the number of a kind, by the place of its name and its value, in the order of the places and then of the values
 abbrev pub number_of : KindTable → Kind → Option ℕ

@@ -2,7 +2,8 @@
 use Rattle.std.specs.Prelude.{◌≡◌, ℕ, ◌/◌, ◌<◌, ◌≤◌, ◌==◌, Bool, true, false, List, map, length, slice_index, slice_index_or, position, unwrap_or}
 use Rattle.sc_gate.specs.declared.gate.Gate.{Gate}
 use Rattle.sc_sched.specs.declared.order.Rank.{Rank}
-use Rattle.sc_sched.specs.Gates.{arity_of, arity_at, kind_of, same_kind, shares}
+use Rattle.sc_gate.specs.SameGates.{same_kind}
+use Rattle.sc_sched.specs.Gates.{arity_of, arity_at, kind_of, shares}
 use Rattle.sc_sched.specs.Legal.{Step, IsLegal}
 use Rattle.sc_sched.specs.Ranks.{timed_gates, IsRank}
 use Rattle.sc_sched.specs.Step.{Shop}

@@ -2,7 +2,7 @@
 ghost use Rattle.std.specs.Prelude.{◌≡◌, ◌<◌, ◌≤◌, ◌/◌, ◌++◌, [], ◌∷◌, None, Some, if◌then◌else◌, length, IfOk, OnOk, MatchOption};
 ghost use Rattle.sc_gate.specs.declared.gate.Kind.{Kind as KindValue};
 ghost use Rattle.sc_gate.specs.Gates.{name_of, place_of, qubits_of};
-ghost use Rattle.sc_sched.specs.Gates.{value_of, same_kind};
+ghost use Rattle.sc_gate.specs.SameGates.{value_of, same_kind};
 ghost use Rattle.sc_sched.specs.Numbering.{number_of, AreNumbered};
 
 use sc_base::Memory;

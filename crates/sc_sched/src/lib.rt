@@ -25,8 +25,9 @@ mod tray;
 mod waiting;
 
 pub use laws::{
-    at_most_one_schedule, both_orders_are_lawful, no_more_steps_than_gates, order_is_lawful,
-    priority_schedules_have_texts, some_gate_is_wider_or_none, some_schedule,
+    at_most_one_schedule, both_orders_are_lawful, no_more_steps_than_gates, one_gate_stands_alone,
+    order_is_lawful, priority_schedules_have_texts, renaming_keeps_schedules,
+    schedules_follow_one_another, some_gate_is_wider_or_none, some_schedule,
 };
 pub use order::{Lpfs, Priority, Rank, Rcp};
 pub use plan::{Plan, Region, Step};

@@ -8,12 +8,9 @@ use crate::narrow::first_wider;
 use crate::placing::place_all;
 use crate::ranks::ranks;
 use crate::{Plan, Priority, Step};
-use sc_base::{List, Memory};
+use sc_base::{List, MOST_GATES, Memory};
 use sc_gate::{Gate, Times};
 use std::alloc::Global;
-
-/// The most gates that one schedule may have.
-const MAX_GATES: usize = 4_194_304;
 
 /// Why there is no schedule.
 #[derive(Clone, Copy, Debug, PartialEq, Eq)]
@@ -52,7 +49,7 @@ pub fn schedule<P: Priority>(
     ensures too_large { (result ≡ Err SchedFault.SchedTooLarge) ↔ (4194304 < length gates.now) }
     ensures narrow { (x : ℕ) → (result ≡ Err (SchedFault.Narrow x)) ↔ ((length gates.now ≤ 4194304) × IsFirstWider d gates.now x) }
 {
-    if gates.len() > MAX_GATES {
+    if gates.len() > MOST_GATES {
         return Err(SchedFault::SchedTooLarge);
     }
     if let Some(x) = first_wider(gates, d) {

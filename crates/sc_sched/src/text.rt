@@ -1,13 +1,12 @@
 //! Schedule texts.
-ghost use Rattle.std.specs.Prelude.{◌≡◌, ◌<◌, ◌^◌, false, ◌++◌, length, codes, decimal, flat_map, OnOk};
+ghost use Rattle.std.specs.Prelude.{◌≡◌, false, flat_map, OnOk};
 ghost use Rattle.sc_base.specs.Causes.{HasCause};
 ghost use Rattle.sc_base.specs.Output.{Wrote, WrotePrefix};
-ghost use Rattle.sc_gate.specs.Lines.{number_line};
 ghost use Rattle.sc_sched.specs.Text.{after_spaces, region_line, step_text, head_text, schedule_text};
 
 use crate::{Plan, Region, Step};
-use itoa::Buffer;
-use sc_base::{Sink, WriteFault, write_all};
+use sc_base::{LineBuffer, Sink, WriteFault, write_all};
+use sc_gate::write_number_line;
 
 /// Appends the text of the schedule. Takes no memory. At a fault a front of the text was appended.
 pub fn write_schedule<O: Sink>(s: &Plan, out: &mut O) -> Result<(), WriteFault>
@@ -31,10 +30,10 @@ fn write_head<O: Sink>(s: &Plan, out: &mut O) -> Result<(), WriteFault>
     ensures cause { HasCause (O.faults out.old) (O.faults out.new) result }
 {
     write_all(out, b"sched 1\n")?;
-    write_number_line(b"regions", s.k as u64, out)?;
-    write_number_line(b"width", s.d as u64, out)?;
-    write_number_line(b"gates", s.gates as u64, out)?;
-    write_number_line(b"steps", s.steps.len() as u64, out)?;
+    write_number_line(b"regions", s.k as u128, out)?;
+    write_number_line(b"width", s.d as u128, out)?;
+    write_number_line(b"gates", s.gates as u128, out)?;
+    write_number_line(b"steps", s.steps.len() as u128, out)?;
     Ok(())
 }
 
@@ -97,33 +96,10 @@ fn write_positions<O: Sink>(region: &[u32], out: &mut O) -> Result<(), WriteFaul
     ensures cause { HasCause (O.faults out.old) (O.faults out.new) result }
 {
     for x in region {
-        let mut buffer = Buffer::new();
-        write_pair(b" ", buffer.format(*x).as_bytes(), out)?;
+        let mut line = LineBuffer::new();
+        line.push(b" ");
+        line.push_number(*x);
+        write_all(out, line.as_bytes())?;
     }
-    Ok(())
-}
-
-fn write_number_line<O: Sink>(word: &[u8], number: u64, out: &mut O) -> Result<(), WriteFault>
-    requires open { O.is_ended out.old ≡ false }
-    ensures open { O.is_ended out.new ≡ false }
-    ensures appended { OnOk result (Wrote O.tells O.bytes out.old out.new (number_line word.now number)) }
-    ensures prefix { WrotePrefix O.tells O.bytes out.old out.new (number_line word.now number) }
-    ensures cause { HasCause (O.faults out.old) (O.faults out.new) result }
-{
-    let mut buffer = Buffer::new();
-    write_pair(word, b" ", out)?;
-    write_pair(buffer.format(number).as_bytes(), b"\n", out)?;
-    Ok(())
-}
-
-fn write_pair<O: Sink>(first: &[u8], second: &[u8], out: &mut O) -> Result<(), WriteFault>
-    requires open { O.is_ended out.old ≡ false }
-    ensures open { O.is_ended out.new ≡ false }
-    ensures appended { OnOk result (Wrote O.tells O.bytes out.old out.new (first.now ++ second.now)) }
-    ensures prefix { WrotePrefix O.tells O.bytes out.old out.new (first.now ++ second.now) }
-    ensures cause { HasCause (O.faults out.old) (O.faults out.new) result }
-{
-    write_all(out, first)?;
-    write_all(out, second)?;
     Ok(())
 }

@@ -7,7 +7,7 @@ ghost use Rattle.sc_sched.specs.Rounds.{stands};
 ghost use Rattle.sc_sched.specs.Waiting.{is_placed, is_ready};
 
 use crate::board::Board;
-use crate::neighbours::{Neighbours, last_gates, next_gates};
+use crate::neighbours::{Marks, Neighbours, last_gates, next_gates};
 use sc_base::Memory;
 use sc_gate::Gate;
 use std::alloc::Global;
@@ -15,8 +15,8 @@ use std::alloc::Global;
 #[derive(Drop)]
 pub struct Waiting {
     /// for each gate the gates before and after it on its wires
-    pub last: Vec<Neighbours>,
-    pub next: Vec<Neighbours>,
+    pub last: Vec<Marks>,
+    pub next: Vec<Marks>,
     pub placed: Vec<bool>,
 }
 
@@ -48,7 +48,7 @@ impl Waiting {
         requires last { x < length self.now.last.items }
         ensures { result ≡ is_ready self.now x }
     {
-        let Neighbours { a, b, c } = self.last[x as usize];
+        let Neighbours { a, b, c } = self.last[x as usize].unpack();
         !self.placed[x as usize] && self.is_placed(a) && self.is_placed(b) && self.is_placed(c)
     }
 
@@ -102,7 +102,7 @@ impl Waiting {
         ensures waits { (z : ℕ) → z < length board.old.kind.items → waits board.new z ≡ (waits board.old z || (list_any (λ x. holds (neighbours_at self.now.next.items x) z) step.now && is_ready self.now z)) }
     {
         for x in step {
-            self.add_each(board, self.next[*x as usize]);
+            self.add_each(board, self.next[*x as usize].unpack());
         }
     }
 

@@ -1,20 +1,20 @@
-use Rattle.std.proofs.Common.{◌≤◌, ℕ, List, ◌∷◌, ◌∙◌, sym, ap, arith, length}
-use Rattle.std.specs.Prelude.{decimal}
+use Rattle.std.proofs.Common.{◌≤◌, ℕ, List, ◌∷◌, ◌++◌, ◌∙◌, sym, ap, arith, length}
+use Rattle.std.specs.Prelude.{decimal, codes, slice_index}
 use Rattle.sc_base.proofs.OutputLemmas.{prefix_whole}
-use Rattle.sc_sched.proofs.TextLemmas.{loop_step, loop_fault, loop_done}
+use Rattle.sc_base.proofs.LoopLemmas.{loop_step, loop_fault, loop_done}
 use Rattle.sc_sched.proofs.text.write_positions.Goals as goal
 
-pub returns-in_err-write_pair-clause-prefix : goal.returns-in_err-write_pair-clause-prefix
-returns-in_err-write_pair-clause-prefix g c =
+pub returns-in_err-write_all-clause-prefix : goal.returns-in_err-write_all-clause-prefix
+returns-in_err-write_all-clause-prefix g c =
     loop_fault (λ (x : ℕ). 32 ∷ decimal x) c.args.region.now c.loop-x.x-index 0 _ c.loop-x-test.true
-    (ap (λ (z : List ℕ). 32 ∷ z) (sym (c.as_bytes.ensures.value ∙ c.format.ensures.text))) c.loop-x.invariant.written c.write_pair.ensures.prefix
+    (sym (c.as_bytes.ensures ∙ (c.push_number.ensures.text ∙ ap (λ (z : List ℕ). z ++ decimal (slice_index c.args.region.now c.loop-x.x-index)) (c.push.ensures ∙ ap (λ (z : List ℕ). z ++ codes " ") c.new-line.ensures)))) c.loop-x.invariant.written c.write_all.ensures.prefix
 
 pub loop-x-preserved : goal.loop-x-preserved
 loop-x-preserved g c = record {
-  open_still = c.in_ok-write_pair.ensures.«open»;
-  later = omega (arith, c.loop-x.invariant.later, c.in_ok-write_pair.ensures.cause.later);
+  open_still = c.in_ok-write_all.ensures.«open»;
+  later = omega (arith, c.loop-x.invariant.later, c.in_ok-write_all.ensures.cause.later);
   written = loop_step (λ (x : ℕ). 32 ∷ decimal x) c.args.region.now c.loop-x.x-index 0 _ c.loop-x-test.true
-      (ap (λ (z : List ℕ). 32 ∷ z) (sym (c.as_bytes.ensures.value ∙ c.format.ensures.text))) c.loop-x.invariant.written c.in_ok-write_pair.ensures.appended;
+      (sym (c.as_bytes.ensures ∙ (c.push_number.ensures.text ∙ ap (λ (z : List ℕ). z ++ decimal (slice_index c.args.region.now c.loop-x.x-index)) (c.push.ensures ∙ ap (λ (z : List ℕ). z ++ codes " ") c.new-line.ensures)))) c.loop-x.invariant.written c.in_ok-write_all.ensures.appended;
 }
 
 pub returns-clause-appended : goal.returns-clause-appended

@@ -1,7 +1,7 @@
 use Rattle.std.proofs.Common.{◌≤◌, ◌∙◌, sym, ap, arith, length}
 use Rattle.sc_base.proofs.OutputLemmas.{prefix_whole}
 use Rattle.sc_sched.specs.Text.{region_line}
-use Rattle.sc_sched.proofs.TextLemmas.{loop_step, loop_fault, loop_done}
+use Rattle.sc_base.proofs.LoopLemmas.{loop_step, loop_fault, loop_done}
 use Rattle.sc_sched.proofs.text.write_regions.Goals as goal
 
 pub returns-in_err-write_region-clause-prefix : goal.returns-in_err-write_region-clause-prefix

@@ -3,7 +3,7 @@ use Rattle.std.specs.Prelude.{◌==◌}
 use Rattle.std.specs.Ordering.{int_eq, is_eq, ordering_then, nat_cmp, int_cmp}
 use Rattle.std.proofs.lemmas.Bool.{cases_order, eq-eqb, ne_eqb, lt-ltb, le-ltb}
 use Rattle.sc_gate.specs.Gates.{name_of, place_of}
-use Rattle.sc_sched.specs.Gates.{value_of}
+use Rattle.sc_gate.specs.SameGates.{value_of}
 use Rattle.sc_sched.specs.Numbering.{number_of}
 use Rattle.sc_sched.proofs.kinds.KindTable.put.Goals as goal
 
