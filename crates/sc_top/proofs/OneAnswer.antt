@@ -7,7 +7,7 @@ use Rattle.sc_syntax.specs.declared.Token.{Token}
 use Rattle.sc_parse.proofs.OneFault.{one_fault}
 use Rattle.sc_parse.proofs.OneTree.{one_tree}
 use Rattle.sc_parse.specs.Grammar.{IsRefused, IsTreeOf}
-use Rattle.sc_types.proofs.AlikeSources.{one_fault as one_type_fault}
+use Rattle.sc_types.proofs.OneFault.{one_fault as one_type_fault}
 use Rattle.sc_types.specs.Sources.{fault_of}
 use Rattle.sc_types.specs.declared.fault.TypeFault.{TypeFault}
 use Rattle.sc_top.proofs.FirstForm.{first_form_is_typed}

@@ -1,5 +1,5 @@
 -- Where the walk over the open scopes finds no fault, each statement is as acceptance says.
-use Rattle.std.proofs.Common.{◌≡◌, ℕ, suc, Bool, true, false, cond, List, [], ◌∷◌, ◌++◌, length, Option, Some, None, Result, Ok, Err, refl, sym, ap, subst, ◌∙◌, eqb-true}
+use Rattle.std.proofs.Common.{◌≡◌, Bool, true, false, cond, List, [], ◌∷◌, ◌++◌, length, Option, Some, None, Result, Ok, Err, refl, sym, ap, ◌∙◌, eqb-true}
 use Rattle.std.specs.Prelude.{nat_eq, is_some, map, option_map}
 use Rattle.std.specs.List.{All}
 use Rattle.std.proofs.lemmas.List.Elements.{All-head, All-tail}
@@ -21,15 +21,14 @@ use Rattle.sc_syntax.specs.declared.Set.{Set as SetOf}
 use Rattle.sc_syntax.specs.declared.Measure.{Measure as MeasureOf}
 use Rattle.sc_syntax.specs.declared.Callee.{Callee}
 use Rattle.sc_syntax.specs.declared.Callee.TheVariants as callee
-use Rattle.sc_syntax.specs.declared.Part.{Part}
 use Rattle.sc_syntax.specs.declared.Node as node
 use Rattle.sc_syntax.specs.declared.Node.{Node, Index', Paren', Unary', Chain', Pick'}
 use Rattle.sc_syntax.specs.declared.Act as act
 use Rattle.sc_syntax.specs.declared.Act.{Act, If', While', For', Block', Held-Act-If-2, None', Some', Row_of-Stmt, end_of-Stmt, more_of-Stmt}
 use Rattle.sc_syntax.specs.declared.Stmt.{Stmt}
-use Rattle.sc_syntax.specs.Alike.{PureExpr, PureAct, PureHeld, set, measure, absent, held, pure_node, pure_expr, pure_decl, pure_init, pure_operand, pure_act, pure_held, pure_row, pure_stmt, in_row}
+use Rattle.sc_syntax.specs.Alike.{PureExpr, PurePart, PureAct, PureHeld, set, measure, absent, held, pure_node, pure_expr, pure_decl, pure_init, pure_operand, pure_act, pure_held, pure_row, pure_stmt, in_row}
 use Rattle.sc_syntax.specs.Formed.{IsSettingOption, IsFormedAct, IsFormedActOption, AreFormedStmts, IsFormedStmt}
-use Rattle.sc_syntax.specs.NameKind.{Kinds, kind_of_expr, kind_of_operation}
+use Rattle.sc_syntax.specs.NameKind.{Kinds, kind_of, kind_of_expr, kind_of_operation}
 use Rattle.sc_types.specs.declared.fault.TypeFault.{TypeFault}
 use Rattle.sc_types.specs.declared.fault.TypeFault.TheVariants.{WrongKind, WrongCount, Redefined}
 use Rattle.sc_types.specs.declared.want.Want.{Want}
@@ -42,18 +41,18 @@ use Rattle.sc_types.specs.Sorts.{◌>>=◌, sort_of}
 use Rattle.sc_types.specs.Statements.{optional, wire_kind, start_checks, may_set, number_of, goes_into, set_by, fit_checks, set_checks, measure_checks, applied, named_wants, called, call_checks}
 use Rattle.sc_types.specs.Walking.{unless, wire_on, wires_on, init_on, inits_on, inside, act_on, held_on, else_on, row_on, stmts_on}
 use Rattle.sc_types.specs.Wires.{is_wire, suits, suits_indexed, wire_node, argument_checks, operand_checks, arguments_checks, gate_wants}
-use Rattle.sc_types.specs.Accepted.{IsInt, IsNumber, IfThere, IsSuited, IsWire, Fits, AllFit, IsOperand, Taken, IsCall, IsNew, with_name, kind_of_wire, with_wires, AreWires, with_numbers, Starts, AreNumbers, kind_set, GoesInto, IsSet, names_after, names_held, IsAdvance, IsFine, IsFineHeld, AreFine}
+use Rattle.sc_types.specs.Accepted.{IsInt, IsNumber, IfThere, IsSuited, IsWire, Fits, AllFit, IsOperand, Taken, IsCall, IsNew, with_name, with_wires, AreWires, with_numbers, Starts, AreNumbers, kind_set, GoesInto, IsSet, names_after, names_held, IsAdvance, IsFine, IsFineHeld, AreFine}
 use Rattle.sc_types.proofs.NamedParts.{fine_first, fine_second, one_passes}
 use Rattle.sc_types.proofs.Telling.{Tells, tells_node}
 
 -- ---- expressions
 
-number_by : (ks : Kinds) (e : Expr) (r : Result NumSort TypeFault) → Tells r (number_checks ks e) (kind_of_expr ks e) → first_fault (number_checks ks e) ≡ None → IsNumber ks (pure_expr e)
+number_by : (ks : Kinds) (e : Expr) (r : Result NumSort TypeFault) → Tells r (number_checks ks (pure_expr e)) (kind_of_expr ks e) → first_fault (number_checks ks (pure_expr e)) ≡ None → IsNumber ks (pure_expr e)
 number_by ks e (Ok s) told fine = (s, told.1)
 number_by ks e (Err f) told fine = absurd (let impossible : Some f ≡ None = sym told ∙ fine in cc)
 
 -- an expression whose checks pass is a number
-pub number_fine : (ks : Kinds) (e : Expr) → first_fault (number_checks ks e) ≡ None → IsNumber ks (pure_expr e)
+pub number_fine : (ks : Kinds) (e : Expr) → first_fault (number_checks ks (pure_expr e)) ≡ None → IsNumber ks (pure_expr e)
 number_fine ks e fine = number_by ks e (sort_of ks e) (tells_node ks e.place e.node) fine
 
 int_kind : (k : Option NumSort) → is_int k ≡ true → k ≡ Some num.Int
@@ -62,10 +61,10 @@ int_kind (Some num.Double) e = cc
 int_kind None e = cc
 
 -- and an int
-pub int_fine : (ks : Kinds) (e : Expr) → first_fault (int_checks ks e) ≡ None → IsInt ks (pure_expr e)
+pub int_fine : (ks : Kinds) (e : Expr) → first_fault (int_checks ks (pure_expr e)) ≡ None → IsInt ks (pure_expr e)
 int_fine ks e fine =
     int_kind (kind_of_expr ks e)
-    (one_passes (is_int (kind_of_expr ks e)) (WrongKind e.place) (fine_second (number_checks ks e) (check (is_int (kind_of_expr ks e)) (WrongKind e.place) ∷ []) fine))
+    (one_passes (is_int (kind_of_expr ks e)) (WrongKind e.place) (fine_second (number_checks ks (pure_expr e)) (check (is_int (kind_of_expr ks e)) (WrongKind e.place) ∷ []) fine))
 
 -- ---- arguments
 
@@ -73,12 +72,12 @@ suited_fine : (suited : NameKind → Bool) (at : Place) (k : Option NameKind) �
 suited_fine suited at None fine = cc
 suited_fine suited at (Some k) fine = one_passes (suited k) (WrongKind at) fine
 
-wire_fine : (ks : Kinds) (want : Want) (at : Place) (n : Node) → first_fault (wire_node ks want at n) ≡ None → IsWire ks want (pure_node n)
+wire_fine : (ks : Kinds) (want : Want) (at : Place) (n : Node) → first_fault (wire_node ks want at (pure_node n)) ≡ None → IsWire ks want (pure_node n)
 wire_fine ks want at (node.Name t) fine = suited_fine (suits want) at (ks t) fine
 wire_fine ks want at (Index' t b p n) fine =
     let i : Expr = record { place = p; node = n } in (
-      suited_fine (suits_indexed want) at (ks t) (fine_first (is_wire (suits_indexed want) at (ks t) ∷ []) (int_checks ks i) fine),
-      int_fine ks i (fine_second (is_wire (suits_indexed want) at (ks t) ∷ []) (int_checks ks i) fine),
+      suited_fine (suits_indexed want) at (ks t) (fine_first (is_wire (suits_indexed want) at (ks t) ∷ []) (int_checks ks (pure_expr i)) fine),
+      int_fine ks i (fine_second (is_wire (suits_indexed want) at (ks t) ∷ []) (int_checks ks (pure_expr i)) fine),
     )
 wire_fine ks want at (node.Int n) fine = cc
 wire_fine ks want at (node.Decimal d) fine = cc
@@ -87,7 +86,7 @@ wire_fine ks want at (Unary' o b p n) fine = cc
 wire_fine ks want at (Chain' b p n shape row) fine = cc
 wire_fine ks want at (Pick' b1 p1 n1 b2 p2 n2 b3 p3 n3) fine = cc
 
-argument_fine : (ks : Kinds) (want : Want) (e : Expr) → first_fault (argument_checks ks want e) ≡ None → Fits ks want (pure_expr e)
+argument_fine : (ks : Kinds) (want : Want) (e : Expr) → first_fault (argument_checks ks want (pure_expr e)) ≡ None → Fits ks want (pure_expr e)
 argument_fine ks AnInt e fine = int_fine ks e fine
 argument_fine ks ADouble e fine = number_fine ks e fine
 argument_fine ks (OneWire c) e fine = wire_fine ks (OneWire c) e.place e.node fine
@@ -95,14 +94,14 @@ argument_fine ks (ManyWires c) e fine = wire_fine ks (ManyWires c) e.place e.nod
 argument_fine ks Word e fine = wire_fine ks Word e.place e.node fine
 
 -- as many arguments as are wanted
-pub arguments_fine : (ks : Kinds) (ws : List Want) (es : List Expr) → length es ≡ length ws → first_fault (arguments_checks ks ws es) ≡ None → AllFit ks ws (map pure_expr es)
+pub arguments_fine : (ks : Kinds) (ws : List Want) (es : List Expr) → length (map pure_expr es) ≡ length ws → first_fault (arguments_checks ks ws (map pure_expr es)) ≡ None → AllFit ks ws (map pure_expr es)
 arguments_fine ks [] [] same fine = tt
 arguments_fine ks [] (e ∷ es) same fine = absurd cc
 arguments_fine ks (w ∷ ws) [] same fine = absurd cc
 arguments_fine ks (w ∷ ws) (e ∷ es) same fine =
-    let rest : length es ≡ length ws = cc in (
-      argument_fine ks w e (fine_first (argument_checks ks w e) (arguments_checks ks ws es) fine),
-      arguments_fine ks ws es rest (fine_second (argument_checks ks w e) (arguments_checks ks ws es) fine),
+    let rest : length (map pure_expr es) ≡ length ws = cc in (
+      argument_fine ks w e (fine_first (argument_checks ks w (pure_expr e)) (arguments_checks ks ws (map pure_expr es)) fine),
+      arguments_fine ks ws es rest (fine_second (argument_checks ks w (pure_expr e)) (arguments_checks ks ws (map pure_expr es)) fine),
     )
 
 -- ---- declarations
@@ -129,16 +128,12 @@ name_fine outer here name k after e = by (kind_here here name.text) refl e
     by (Some x) is e = absurd cc
 
 -- what is said of an expression whose checks pass, where there is one
-pub there_fine : (checks : Expr → List Check) (P : PureExpr → Type 0) → ((e : Expr) → first_fault (checks e) ≡ None → P (pure_expr e))
-    → (o : Option Expr) → first_fault (optional checks o) ≡ None → IfThere P (option_map pure_expr o)
+pub there_fine : (checks : PureExpr → List Check) (P : PureExpr → Type 0) → ((e : Expr) → first_fault (checks (pure_expr e)) ≡ None → P (pure_expr e))
+    → (o : Option Expr) → first_fault (optional checks (option_map pure_expr o)) ≡ None → IfThere P (option_map pure_expr o)
 there_fine checks P one None fine = tt
 there_fine checks P one (Some e) fine = one e fine
 
-wire_kind_is : (c : Class) (o : Option Expr) → wire_kind c o ≡ kind_of_wire c (option_map pure_expr o)
-wire_kind_is c None = refl
-wire_kind_is c (Some e) = refl
-
-start_fine : (ks : Kinds) (s : NumSort) (e : Expr) → first_fault (start_checks ks s e) ≡ None → Starts ks s (pure_expr e)
+start_fine : (ks : Kinds) (s : NumSort) (e : Expr) → first_fault (start_checks ks s (pure_expr e)) ≡ None → Starts ks s (pure_expr e)
 start_fine ks num.Int e fine = int_fine ks e fine
 start_fine ks num.Double e fine = number_fine ks e fine
 
@@ -148,10 +143,10 @@ wires_fine c outer here [] after e = (tt, cc)
 wires_fine c outer here (d ∷ ds) after e =
     let ks : Kinds = kinds_in (here ∷ outer) in
     let one = between (wire_on c (here ∷ outer) d) (λ s. wires_on c s ds) after e in
-    let passed = behind (first_fault (optional (int_checks ks) d.size)) (declared (here ∷ outer) d.name (wire_kind c d.size)) one.0 one.1 in
-    let new = name_fine outer here d.name (wire_kind c d.size) one.0 passed.1 in
-    let is : one.0 ≡ with_name here d.name (kind_of_wire c (option_map pure_expr d.size)) ∷ outer = new.1 ∙ ap (λ k. with_name here d.name k ∷ outer) (wire_kind_is c d.size) in
-    let rest = wires_fine c outer (with_name here d.name (kind_of_wire c (option_map pure_expr d.size))) ds after (ap (λ (s : Stack). wires_on c s ds) (sym is) ∙ one.2) in
+    let k : NameKind = wire_kind c (option_map pure_expr d.size) in
+    let passed = behind (first_fault (optional (int_checks ks) (option_map pure_expr d.size))) (declared (here ∷ outer) d.name k) one.0 one.1 in
+    let new = name_fine outer here d.name k one.0 passed.1 in
+    let rest = wires_fine c outer (with_name here d.name k) ds after (ap (λ (s : Stack). wires_on c s ds) (sym new.1) ∙ one.2) in
     ((there_fine (int_checks ks) (IsInt ks) (int_fine ks) d.size passed.0, new.0, rest.0), rest.1)
 
 pub inits_fine : (s : NumSort) (outer : Stack) (here : List Known) (ds : List Init) (after : Stack) → inits_on s (here ∷ outer) ds ≡ Ok after
@@ -160,7 +155,7 @@ inits_fine s outer here [] after e = (tt, cc)
 inits_fine s outer here (d ∷ ds) after e =
     let ks : Kinds = kinds_in (here ∷ outer) in
     let one = between (init_on s (here ∷ outer) d) (λ t. inits_on s t ds) after e in
-    let passed = behind (first_fault (optional (start_checks ks s) d.start)) (declared (here ∷ outer) d.name (kind.Number s)) one.0 one.1 in
+    let passed = behind (first_fault (optional (start_checks ks s) (option_map pure_expr d.start))) (declared (here ∷ outer) d.name (kind.Number s)) one.0 one.1 in
     let new = name_fine outer here d.name (kind.Number s) one.0 passed.1 in
     let rest = inits_fine s outer (with_name here d.name (kind.Number s)) ds after (ap (λ (t : Stack). inits_on s t ds) (sym new.1) ∙ one.2) in
     ((there_fine (start_checks ks s) (Starts ks s) (start_fine ks s) d.start passed.0, new.0, rest.0), rest.1)
@@ -187,62 +182,58 @@ makes_fine at mark x (Some o) v fine = by (kind_of_operation o x v) refl fine
     by (Some r) is fine = (r, is, one_passes (goes_into (Some x) (Some r)) (WrongKind at) fine)
 
 goes_fine : (ks : Kinds) (at mark : Place) (x : NumSort) (op : SetOp) (e : Expr)
-    → first_fault (number_checks ks e ++ fit_checks at mark (Some x) (set_by op) (kind_of_expr ks e)) ≡ None → GoesInto ks x op (pure_expr e)
+    → first_fault (number_checks ks (pure_expr e) ++ fit_checks at mark (Some x) (set_by op) (kind_of_expr ks e)) ≡ None → GoesInto ks x op (pure_expr e)
 goes_fine ks at mark x op e fine =
-    let number = number_fine ks e (fine_first (number_checks ks e) (fit_checks at mark (Some x) (set_by op) (kind_of_expr ks e)) fine) in
-    let fits = fine_second (number_checks ks e) (fit_checks at mark (Some x) (set_by op) (kind_of_expr ks e)) fine in
+    let number = number_fine ks e (fine_first (number_checks ks (pure_expr e)) (fit_checks at mark (Some x) (set_by op) (kind_of_expr ks e)) fine) in
+    let fits = fine_second (number_checks ks (pure_expr e)) (fit_checks at mark (Some x) (set_by op) (kind_of_expr ks e)) fine in
     let makes = makes_fine at mark x (set_by op) number.0 (ap (λ (k : Option NumSort). first_fault (fit_checks at mark (Some x) (set_by op) k)) (sym number.1) ∙ fits) in
     record { sort = number.0; value = number.1; made = makes.0; makes = makes.1; goes = makes.2 }
 
-pub set_fine : (names : Stack) (s : SetOf) → first_fault (set_checks (kind_in names) s) ≡ None → IsSet names s.name s.op (option_map pure_expr s.value)
+pub set_fine : (names : Stack) (s : SetOf) → first_fault (set_checks (kind_in names) s.name s.op s.place (option_map pure_expr s.value)) ≡ None → IsSet names s.name s.op (option_map pure_expr s.value)
 set_fine names s fine =
     let ks : Kinds = kinds_in names in
-    let checks_of : Option NumSort → Expr → List Check = λ k e. number_checks ks e ++ fit_checks s.name.place s.place k (set_by s.op) (kind_of_expr ks e) in
+    let checks_of : Option NumSort → PureExpr → List Check = λ k e. number_checks ks e ++ fit_checks s.name.place s.place k (set_by s.op) (kind_of ks e.node) in
     let first : List Check = may_set s.name.place (is_pi s.name.text) (kind_in names s.name.text) ∷ [] in
-    let rest : List Check = optional (checks_of (number_of (kind_in names s.name.text))) s.value in
+    let rest : List Check = optional (checks_of (number_of (kind_in names s.name.text))) (option_map pure_expr s.value) in
     let named = may_fine s.name.place (is_pi s.name.text) (kind_in names s.name.text) (fine_first first rest fine) in
     record {
       sort = named.0;
       number = named.1;
       fits = there_fine (checks_of (Some named.0)) (GoesInto ks named.0 s.op) (goes_fine ks s.name.place s.place named.0 s.op) s.value
-          (ap (λ (k : Option NameKind). first_fault (optional (checks_of (number_of k)) s.value)) (sym named.1) ∙ fine_second first rest fine);
+          (ap (λ (k : Option NameKind). first_fault (optional (checks_of (number_of k)) (option_map pure_expr s.value))) (sym named.1) ∙ fine_second first rest fine);
     }
 
 -- ---- measurements and calls
 
-operand_fine : (ks : Kinds) (want : Want) (o : Operand) → first_fault (operand_checks ks want o) ≡ None → IsOperand ks want (pure_operand o)
+operand_fine : (ks : Kinds) (want : Want) (o : Operand) → first_fault (operand_checks ks want (pure_operand o)) ≡ None → IsOperand ks want (pure_operand o)
 operand_fine ks want o fine = by o.index fine
   where
-    by : (i : Option Expr) → first_fault (operand_checks ks want (record { name = o.name; index = i })) ≡ None → IsOperand ks want (pure_operand (record { name = o.name; index = i }))
+    by : (i : Option Expr) → first_fault (operand_checks ks want (pure_operand (record { name = o.name; index = i }))) ≡ None → IsOperand ks want (pure_operand (record { name = o.name; index = i }))
     by None fine = suited_fine (suits want) o.name.place (ks o.name.text) fine
     by (Some e) fine = (
-      suited_fine (suits_indexed want) o.name.place (ks o.name.text) (fine_first (is_wire (suits_indexed want) o.name.place (ks o.name.text) ∷ []) (int_checks ks e) fine),
-      int_fine ks e (fine_second (is_wire (suits_indexed want) o.name.place (ks o.name.text) ∷ []) (int_checks ks e) fine),
+      suited_fine (suits_indexed want) o.name.place (ks o.name.text) (fine_first (is_wire (suits_indexed want) o.name.place (ks o.name.text) ∷ []) (int_checks ks (pure_expr e)) fine),
+      int_fine ks e (fine_second (is_wire (suits_indexed want) o.name.place (ks o.name.text) ∷ []) (int_checks ks (pure_expr e)) fine),
     )
 
-pub measure_fine : (ks : Kinds) (m : MeasureOf) → first_fault (measure_checks ks m) ≡ None → IsOperand ks (OneWire C) (pure_operand m.into) × IsOperand ks (OneWire Q) (pure_operand m.from)
+pub measure_fine : (ks : Kinds) (m : MeasureOf) → first_fault (measure_checks ks (pure_operand m.into) (pure_operand m.from)) ≡ None → IsOperand ks (OneWire C) (pure_operand m.into) × IsOperand ks (OneWire Q) (pure_operand m.from)
 measure_fine ks m fine = (
-  operand_fine ks (OneWire C) m.into (fine_first (operand_checks ks (OneWire C) m.into) (operand_checks ks (OneWire Q) m.from) fine),
-  operand_fine ks (OneWire Q) m.from (fine_second (operand_checks ks (OneWire C) m.into) (operand_checks ks (OneWire Q) m.from) fine),
+  operand_fine ks (OneWire C) m.into (fine_first (operand_checks ks (OneWire C) (pure_operand m.into)) (operand_checks ks (OneWire Q) (pure_operand m.from)) fine),
+  operand_fine ks (OneWire Q) m.from (fine_second (operand_checks ks (OneWire C) (pure_operand m.into)) (operand_checks ks (OneWire Q) (pure_operand m.from)) fine),
 )
 
-applied_fine : (ks : Kinds) (at : Place) (ws : List Want) (es : List Expr) → first_fault (applied ks at ws es) ≡ None → AllFit ks ws (map pure_expr es)
+applied_fine : (ks : Kinds) (at : Place) (ws : List Want) (es : List Expr) → first_fault (applied ks at ws (map pure_expr es)) ≡ None → AllFit ks ws (map pure_expr es)
 applied_fine ks at ws es fine =
-    let count : List Check = check (nat_eq (length es) (length ws)) (WrongCount at) ∷ [] in
-    arguments_fine ks ws es (eqb-true (length es) (length ws) (one_passes (nat_eq (length es) (length ws)) (WrongCount at) (fine_first count (arguments_checks ks ws es) fine)))
-    (fine_second count (arguments_checks ks ws es) fine)
+    let args : List PureExpr = map pure_expr es in
+    let count : List Check = check (nat_eq (length args) (length ws)) (WrongCount at) ∷ [] in
+    arguments_fine ks ws es (eqb-true (length args) (length ws) (one_passes (nat_eq (length args) (length ws)) (WrongCount at) (fine_first count (arguments_checks ks ws args) fine)))
+    (fine_second count (arguments_checks ks ws args) fine)
 
-length_is : (es : List Expr) → length es ≡ length (map pure_expr es)
-length_is [] = refl
-length_is (e ∷ es) = ap suc (length_is es)
-
-pub call_fine : (parts : List Part) (ks : Kinds) (c : Callee) (at : Place) (es : List Expr) → first_fault (call_checks parts ks (record { callee = c; place = at; args = es })) ≡ None
+pub call_fine : (parts : List PurePart) (ks : Kinds) (c : Callee) (at : Place) (es : List Expr) → first_fault (call_checks parts ks c at (map pure_expr es)) ≡ None
     → IsCall (named_wants parts) ks c (map pure_expr es)
-call_fine parts ks (callee.Gate g) at es fine =
-    subst (λ (n : ℕ). AllFit ks (gate_wants g n) (map pure_expr es)) (length_is es) (applied_fine ks at (gate_wants g (length es)) es fine)
+call_fine parts ks (callee.Gate g) at es fine = applied_fine ks at (gate_wants g (length (map pure_expr es))) es fine
 call_fine parts ks (callee.Named t) at es fine = by (named_wants parts t) refl fine
   where
-    by : (o : Option (List Want)) → named_wants parts t ≡ o → first_fault (called ks at o es) ≡ None
+    by : (o : Option (List Want)) → named_wants parts t ≡ o → first_fault (called ks at o (map pure_expr es)) ≡ None
         → (wants : List Want) × (named_wants parts t ≡ Some wants) × AllFit ks wants (map pure_expr es)
     by None is fine = cc
     by (Some ws) is fine = (ws, is, applied_fine ks at ws es fine)
@@ -272,7 +263,7 @@ record RunsOn (outer : Stack) (after : Stack) : Type 0 where
   is : after ≡ last ∷ outer
 
 -- a body
-enclosed : (parts : List Part) (outer : Stack) (here : List Known) (a : Act) (after : Stack)
+enclosed : (parts : List PurePart) (outer : Stack) (here : List Known) (a : Act) (after : Stack)
     → ((mid : Stack) → act_on parts ([] ∷ here ∷ outer) a ≡ Ok mid → Gives (named_wants parts) (here ∷ outer) [] (pure_act a) mid)
     → inside (λ inner. act_on parts inner a) (here ∷ outer) ≡ Ok after → IsFine (named_wants parts) (here ∷ outer) [] (pure_act a) × (after ≡ here ∷ outer)
 enclosed parts outer here a after gives e =
@@ -294,41 +285,41 @@ advance_keeps here (held p (measure g into from)) h = refl
 advance_keeps here (held p _) h = absurd h
 
 mutual
-  pub act_fine : (parts : List Part) (outer : Stack) (here : List Known) (a : Act) (after : Stack) → IsFormedAct a → act_on parts (here ∷ outer) a ≡ Ok after
+  pub act_fine : (parts : List PurePart) (outer : Stack) (here : List Known) (a : Act) (after : Stack) → IsFormedAct a → act_on parts (here ∷ outer) a ≡ Ok after
       → Gives (named_wants parts) outer here (pure_act a) after
   act_fine parts outer here (act.Wires c ds) after formed e = let h = wires_fine c outer here ds after e in record { fine = h.0; is = h.1 }
   act_fine parts outer here (act.Numbers s ds) after formed e = let h = inits_fine s outer here ds after e in record { fine = h.0; is = h.1 }
   act_fine parts outer here (act.Set s) after formed e =
-      let h = behind (first_fault (set_checks (kind_in (here ∷ outer)) s)) (Ok (here ∷ outer)) after e in record { fine = set_fine (here ∷ outer) s h.0; is = same_after h.1 }
+      let h = behind (first_fault (set_checks (kind_in (here ∷ outer)) s.name s.op s.place (option_map pure_expr s.value))) (Ok (here ∷ outer)) after e in record { fine = set_fine (here ∷ outer) s h.0; is = same_after h.1 }
   act_fine parts outer here (act.Measure m) after formed e =
-      let h = behind (first_fault (measure_checks (kinds_in (here ∷ outer)) m)) (Ok (here ∷ outer)) after e in
+      let h = behind (first_fault (measure_checks (kinds_in (here ∷ outer)) (pure_operand m.into) (pure_operand m.from))) (Ok (here ∷ outer)) after e in
       let both = measure_fine (kinds_in (here ∷ outer)) m h.0 in
       record { fine = (formed.0, both.0, both.1); is = same_after h.1 }
   act_fine parts outer here (act.Call c) after formed e =
-      let h = behind (first_fault (call_checks parts (kinds_in (here ∷ outer)) c)) (Ok (here ∷ outer)) after e in
+      let h = behind (first_fault (call_checks parts (kinds_in (here ∷ outer)) c.callee c.place (map pure_expr c.args))) (Ok (here ∷ outer)) after e in
       record { fine = call_fine parts (kinds_in (here ∷ outer)) c.callee c.place c.args h.0; is = same_after h.1 }
   act_fine parts outer here (If' c b p a other) after formed e =
       let ks : Kinds = kinds_in (here ∷ outer) in
-      let h = behind (first_fault (number_checks ks c)) (inside (λ inner. act_on parts inner a) (here ∷ outer) >>= λ mid. else_on parts mid other) after e in
+      let h = behind (first_fault (number_checks ks (pure_expr c))) (inside (λ inner. act_on parts inner a) (here ∷ outer) >>= λ mid. else_on parts mid other) after e in
       let one = between (inside (λ inner. act_on parts inner a) (here ∷ outer)) (λ mid. else_on parts mid other) after h.1 in
       let body = enclosed parts outer here a one.0 (λ mid h. act_fine parts (here ∷ outer) [] a mid formed.1 h) one.1 in
       let rest = else_fine parts outer here other after formed.2 (ap (λ (s : Stack). else_on parts s other) (sym body.1) ∙ one.2) in
       record { fine = (number_fine ks c h.0, body.0, rest.0); is = rest.1 }
   act_fine parts outer here (While' c b p a) after formed e =
       let ks : Kinds = kinds_in (here ∷ outer) in
-      let h = behind (first_fault (number_checks ks c)) (inside (λ inner. act_on parts inner a) (here ∷ outer)) after e in
+      let h = behind (first_fault (number_checks ks (pure_expr c))) (inside (λ inner. act_on parts inner a) (here ∷ outer)) after e in
       let body = enclosed parts outer here a after (λ mid k. act_fine parts (here ∷ outer) [] a mid formed.1 k) h.1 in
       record { fine = (number_fine ks c h.0, body.0); is = body.1 }
   act_fine parts outer here (For' start test advance b p a) after formed e =
       let last : Stack → Result Stack TypeFault = λ s. inside (λ inner. act_on parts inner a) s in
-      let tested : Stack → Result Stack TypeFault = λ s. unless (first_fault (optional (number_checks (kinds_in s)) test)) (held_on parts s advance >>= last) in
+      let tested : Stack → Result Stack TypeFault = λ s. unless (first_fault (optional (number_checks (kinds_in s)) (option_map pure_expr test))) (held_on parts s advance >>= last) in
       let own = within (λ s. held_on parts s start >>= tested) (here ∷ outer) after e in
       let one = between (held_on parts ([] ∷ here ∷ outer) start) tested own.0 own.1 in
       let begun = held_fine parts (here ∷ outer) [] start one.0 formed.1 one.1 in
       let at_test = ap tested (sym begun.1) ∙ one.2 in
       let known_now : List Known = names_held [] (pure_held start) in
       let ks : Kinds = kinds_in (known_now ∷ here ∷ outer) in
-      let passed = behind (first_fault (optional (number_checks ks) test)) (held_on parts (known_now ∷ here ∷ outer) advance >>= last) own.0 at_test in
+      let passed = behind (first_fault (optional (number_checks ks) (option_map pure_expr test))) (held_on parts (known_now ∷ here ∷ outer) advance >>= last) own.0 at_test in
       let two = between (held_on parts (known_now ∷ here ∷ outer) advance) last own.0 passed.1 in
       let goes = held_fine parts (here ∷ outer) known_now advance two.0 formed.4 two.1 in
       let sets = advance_fine advance formed.3 in
@@ -344,18 +335,18 @@ mutual
       record { fine = all.0; is = own.2 ∙ ap left all.1.is }
   act_fine parts outer here act.Empty after formed e = record { fine = tt; is = same_after e }
 
-  else_fine : (parts : List Part) (outer : Stack) (here : List Known) (o : Held-Act-If-2) (after : Stack) → IsFormedActOption o → else_on parts (here ∷ outer) o ≡ Ok after
+  else_fine : (parts : List PurePart) (outer : Stack) (here : List Known) (o : Held-Act-If-2) (after : Stack) → IsFormedActOption o → else_on parts (here ∷ outer) o ≡ Ok after
       → IsFineHeld (named_wants parts) (here ∷ outer) [] (pure_held o) × (after ≡ here ∷ outer)
   else_fine parts outer here None' after formed e = (tt, same_after e)
   else_fine parts outer here (Some' b p a) after formed e = enclosed parts outer here a after (λ mid h. act_fine parts (here ∷ outer) [] a mid formed h) e
 
   -- a start or an advance
-  held_fine : (parts : List Part) (outer : Stack) (here : List Known) (o : Held-Act-If-2) (after : Stack) → IsFormedActOption o → held_on parts (here ∷ outer) o ≡ Ok after
+  held_fine : (parts : List PurePart) (outer : Stack) (here : List Known) (o : Held-Act-If-2) (after : Stack) → IsFormedActOption o → held_on parts (here ∷ outer) o ≡ Ok after
       → IsFineHeld (named_wants parts) outer here (pure_held o) × (after ≡ names_held here (pure_held o) ∷ outer)
   held_fine parts outer here None' after formed e = (tt, same_after e)
   held_fine parts outer here (Some' b p a) after formed e = let h = act_fine parts outer here a after formed e in (h.fine, h.is)
 
-  row_fine : {m : _} (parts : List Part) (outer : Stack) (here : List Known) (row : Row_of-Stmt m) (after : Stack) → AreFormedStmts row → row_on parts (here ∷ outer) row ≡ Ok after
+  row_fine : {m : _} (parts : List PurePart) (outer : Stack) (here : List Known) (row : Row_of-Stmt m) (after : Stack) → AreFormedStmts row → row_on parts (here ∷ outer) row ≡ Ok after
       → AreFine (named_wants parts) outer here (pure_row row) × RunsOn outer after
   row_fine parts outer here end_of-Stmt after formed e = (tt, record { last = here; is = same_after e })
   row_fine parts outer here (more_of-Stmt p a rest) after formed e =
@@ -365,7 +356,7 @@ mutual
       ((h.fine, more.0), more.1)
 
 -- the statements of a body
-pub stmts_fine : (parts : List Part) (outer : Stack) (here : List Known) (ss : List Stmt) (after : Stack) → All IsFormedStmt ss → stmts_on parts (here ∷ outer) ss ≡ Ok after
+pub stmts_fine : (parts : List PurePart) (outer : Stack) (here : List Known) (ss : List Stmt) (after : Stack) → All IsFormedStmt ss → stmts_on parts (here ∷ outer) ss ≡ Ok after
     → AreFine (named_wants parts) outer here (in_row (map pure_stmt ss))
 stmts_fine parts outer here [] after formed e = tt
 stmts_fine parts outer here (s ∷ ss) after formed e =

@@ -1,15 +1,12 @@
 pub mod AcceptedSources
 pub mod Accepting
 pub mod ActWalks
-pub mod AlikeNumbers
-pub mod AlikeSources
-pub mod AlikeStatements
-pub mod AlikeWords
 pub mod Arguments
 pub mod Blocks
 pub mod FirstPartsLemmas
 pub mod NamedParts
 pub mod Nesting
+pub mod OneFault
 pub mod ParameterLemmas
 pub mod PartLemmas
 pub mod PositionLemmas

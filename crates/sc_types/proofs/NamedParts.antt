@@ -1,5 +1,5 @@
 -- The parts of a well typed source by their names, and its `main`.
-use Rattle.std.proofs.Common.{◌≡◌, ℕ, zero, suc, Bool, true, false, cond, not, nat_eq, List, [], ◌∷◌, ◌++◌, length, take, Option, Some, None, refl, sym, ap, subst, ◌∙◌, append_assoc, append-nil, eqb-true}
+use Rattle.std.proofs.Common.{◌≡◌, ℕ, zero, suc, Bool, true, false, cond, not, nat_eq, List, [], ◌∷◌, ◌++◌, length, map, take, Option, Some, None, refl, sym, ap, subst, ◌∙◌, append_assoc, append-nil, eqb-true}
 use Rattle.std.specs.Prelude.{slice_get, option_map, codes}
 use Rattle.std.specs.List.{list_any}
 use Rattle.std.specs.Cmp.Lexicographic.{same_text}
@@ -9,12 +9,13 @@ use Rattle.sc_syntax.specs.declared.Param.{Param}
 use Rattle.sc_syntax.specs.declared.Part.{Part}
 use Rattle.sc_syntax.specs.declared.Part.TheVariants as part
 use Rattle.sc_syntax.specs.declared.Source.{Source}
+use Rattle.sc_syntax.specs.Alike.{PurePart, pure_param, pure_part, pure_source}
 use Rattle.sc_types.specs.declared.fault.TypeFault.{TypeFault}
 use Rattle.sc_types.specs.declared.fault.TypeFault.TheVariants as fault
 use Rattle.sc_types.specs.Checks.{Check, check, first_fault}
 use Rattle.sc_types.specs.FirstParts.{has_name}
 use Rattle.sc_types.specs.Positions.{first_at}
-use Rattle.sc_types.specs.Sources.{part_checks, parts_checks, is_new_part, name_of, is_main}
+use Rattle.sc_types.specs.Sources.{part_checks, parts_checks, is_new_part, name_of, is_main, is_main_part}
 use Rattle.sc_types.specs.Statements.{part_name}
 use Rattle.sc_types.specs.Typing.{IsWellTyped, main_at, HasMain, HaveDistinctNames}
 use Rattle.sc_types.proofs.FirstPartsLemmas.{name_text}
@@ -44,26 +45,31 @@ one_passes false f e = cc
 
 -- ---- names
 
-new_at : (all earlier ps : List Part) (k : ℕ) (p : Part) → first_fault (parts_checks all earlier ps) ≡ None → slice_get ps k ≡ Some p
-    → first_fault (is_new_part (earlier ++ take k ps) p ∷ []) ≡ None
+new_at : (all earlier : List PurePart) (ps : List Part) (k : ℕ) (p : Part) → first_fault (parts_checks all earlier (map pure_part ps)) ≡ None → slice_get ps k ≡ Some p
+    → first_fault (is_new_part (earlier ++ map pure_part (take k ps)) (pure_part p) ∷ []) ≡ None
 new_at all earlier [] k p fine e = cc
 new_at all earlier (q ∷ qs) zero p fine e =
     let is : q ≡ p = cc in
-    subst (λ (x : Part). first_fault (is_new_part (earlier ++ []) x ∷ []) ≡ None) is
-    (ap (λ (es : List Part). first_fault (is_new_part es q ∷ [])) (append-nil earlier)
-    ∙ fine_first (is_new_part earlier q ∷ []) (part_checks all q ++ parts_checks all (earlier ++ q ∷ []) qs) fine)
+    let here : PurePart = pure_part q in
+    subst (λ (x : Part). first_fault (is_new_part (earlier ++ []) (pure_part x) ∷ []) ≡ None) is
+    (ap (λ (es : List PurePart). first_fault (is_new_part es here ∷ [])) (append-nil earlier)
+    ∙ fine_first (is_new_part earlier here ∷ []) (part_checks all here ++ parts_checks all (earlier ++ here ∷ []) (map pure_part qs)) fine)
 new_at all earlier (q ∷ qs) (suc k) p fine e =
-    ap (λ (es : List Part). first_fault (is_new_part es p ∷ [])) (sym (append_assoc earlier (q ∷ []) (take k qs)))
-    ∙ new_at all (earlier ++ q ∷ []) qs k p
-    (fine_second (part_checks all q) (parts_checks all (earlier ++ q ∷ []) qs)
-    (fine_second (is_new_part earlier q ∷ []) (part_checks all q ++ parts_checks all (earlier ++ q ∷ []) qs) fine)) e
+    let here : PurePart = pure_part q in
+    let rest : List Check = parts_checks all (earlier ++ here ∷ []) (map pure_part qs) in
+    ap (λ (es : List PurePart). first_fault (is_new_part es (pure_part p) ∷ [])) (sym (append_assoc earlier (here ∷ []) (map pure_part (take k qs))))
+    ∙ new_at all (earlier ++ here ∷ []) qs k p
+    (fine_second (part_checks all here) rest (fine_second (is_new_part earlier here ∷ []) (part_checks all here ++ rest) fine)) e
 
 -- the first part of its name is the part itself
-first_is : (all : List Part) (i : ℕ) (p : Part) → first_fault (parts_checks all [] all) ≡ None → slice_get all i ≡ Some p → first_at (has_name (part_name p)) all ≡ Some i
+first_is : (all : List Part) (i : ℕ) (p : Part) → first_fault (parts_checks (map pure_part all) [] (map pure_part all)) ≡ None → slice_get all i ≡ Some p
+    → first_at (has_name (part_name (pure_part p))) all ≡ Some i
 first_is all i p fine e =
-    ap (λ (t : List ℕ). first_at (has_name t) all) (sym (name_text p))
-    ∙ position_is i (first_at (has_name (name_of p).text) all)
-    (first_of_name all i p e ∙ one_passes (not (list_any (λ q. same (part_name p) (part_name q)) (take i all))) (fault.Redefined (name_of p).place) (new_at all [] all i p fine e))
+    let here : PurePart = pure_part p in
+    ap (λ (t : List ℕ). first_at (has_name t) all) (sym (name_text here))
+    ∙ position_is i (first_at (has_name (name_of here).text) all)
+    (first_of_name all i p e
+    ∙ one_passes (not (list_any (λ q. same (part_name here) (part_name q)) (map pure_part (take i all)))) (fault.Redefined (name_of here).place) (new_at (map pure_part all) [] all i p fine e))
 
 some_is : {i j : ℕ} → Some i ≡ Some j → i ≡ j
 some_is {i} {j} e = cc
@@ -71,7 +77,8 @@ some_is {i} {j} e = cc
 -- a source whose checks pass has distinct names of parts
 pub distinct_names : (source : Source) → IsWellTyped source → HaveDistinctNames source.parts
 distinct_names source typed i j p q at_i at_j same_name =
-    let fine = fine_first (parts_checks source.parts [] source.parts) (check (list_any is_main source.parts) fault.NoMain ∷ []) typed in
+    let parts : List PurePart = pure_source source in
+    let fine = fine_first (parts_checks parts [] parts) (check (list_any is_main parts) fault.NoMain ∷ []) typed in
     some_is (sym (first_is source.parts i p fine at_i) ∙ ap (λ (t : List ℕ). first_at (has_name t) source.parts) same_name ∙ first_is source.parts j q fine at_j)
 
 -- ---- the module `main`
@@ -84,25 +91,25 @@ less : (r : Option ℕ) (i : ℕ) → option_map suc r ≡ Some (suc i) → r �
 less None i e = cc
 less (Some j) i e = cc
 
-found : (ps : List Part) (i : ℕ) → first_at is_main ps ≡ Some i → (p : Part) × (slice_get ps i ≡ Some p) × (is_main p ≡ true)
+found : (ps : List Part) (i : ℕ) → first_at is_main_part ps ≡ Some i → (p : Part) × (slice_get ps i ≡ Some p) × (is_main_part p ≡ true)
 found [] i e = cc
-found (p ∷ ps) i e = by (is_main p) refl i e (λ k h. found ps k h)
+found (p ∷ ps) i e = by (is_main_part p) refl i e (λ k h. found ps k h)
   where
-    by : (b : Bool) → is_main p ≡ b → (i : ℕ) → cond b (Some 0) (option_map suc (first_at is_main ps)) ≡ Some i
-        → ((k : ℕ) → first_at is_main ps ≡ Some k → (q : Part) × (slice_get ps k ≡ Some q) × (is_main q ≡ true))
-        → (q : Part) × (slice_get (p ∷ ps) i ≡ Some q) × (is_main q ≡ true)
+    by : (b : Bool) → is_main_part p ≡ b → (i : ℕ) → cond b (Some 0) (option_map suc (first_at is_main_part ps)) ≡ Some i
+        → ((k : ℕ) → first_at is_main_part ps ≡ Some k → (q : Part) × (slice_get ps k ≡ Some q) × (is_main_part q ≡ true))
+        → (q : Part) × (slice_get (p ∷ ps) i ≡ Some q) × (is_main_part q ≡ true)
     by true is zero e more = (p, refl, is)
     by true is (suc i) e more = cc
-    by false is zero e more = absurd (no_zero (first_at is_main ps) e)
-    by false is (suc i) e more = more i (less (first_at is_main ps) i e)
+    by false is zero e more = absurd (no_zero (first_at is_main_part ps) e)
+    by false is (suc i) e more = more i (less (first_at is_main_part ps) i e)
 
-no_params : (ps : List Param) → nat_eq (length ps) 0 ≡ true → ps ≡ []
+no_params : (ps : List Param) → nat_eq (length (map pure_param ps)) 0 ≡ true → ps ≡ []
 no_params [] e = refl
-no_params (p ∷ ps) e = let impossible : suc (length ps) ≡ 0 = eqb-true (suc (length ps)) 0 e in cc
+no_params (p ∷ ps) e = let n : ℕ = length (map pure_param ps) in let impossible : suc n ≡ 0 = eqb-true (suc n) 0 e in cc
 
-is_module : (source : Source) (i : ℕ) (p : Part) → slice_get source.parts i ≡ Some p → is_main p ≡ true → HasMain source i
+is_module : (source : Source) (i : ℕ) (p : Part) → slice_get source.parts i ≡ Some p → is_main_part p ≡ true → HasMain source i
 is_module source i (part.Module m) e is =
-    let both = and_parts (same m.name.text (codes "main")) (nat_eq (length m.params) 0) is in
+    let both = and_parts (same m.name.text (codes "main")) (nat_eq (length (map pure_param m.params)) 0) is in
     record { main = m; stands = e; named = same_text m.name.text (codes "main") (sym both.0); bare = no_params m.params both.1 }
 is_module source i (part.Words f) e is = cc
 

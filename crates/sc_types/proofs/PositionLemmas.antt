@@ -64,6 +64,11 @@ some_last test (x ∷ xs) = ap (λ b. test x || b) (some_last test xs) ∙ by (t
     by false None = refl
     by false (Some k) = refl
 
+-- among what is made of each
+pub any_made : {A B : Type 0} (test : B → Bool) (f : A → B) (xs : List A) → list_any test (map f xs) ≡ list_any (λ x. test (f x)) xs
+any_made test f [] = refl
+any_made test f (x ∷ xs) = ap (λ b. test (f x) || b) (any_made test f xs)
+
 -- ---- at a position
 
 suc_position : (n : ℕ) (r : Option ℕ) → is_position (suc n) (option_map suc r) ≡ is_position n r
@@ -109,6 +114,16 @@ found_first test f (x ∷ xs) =
     elim (test x) as (λ b. option_and_then (slice_get (f x ∷ map f xs)) (cond b (Some 0) (option_map suc (first_at test xs))) ≡ option_map f (cond b (Some x) (find test xs))) [
       | true ↦ refl
       | false ↦ skip_one (f x) (map f xs) (first_at test xs) ∙ found_first test f xs
+    ]
+
+-- the first of what is made of each
+pub find_made : {A B C : Type 0} (test : B → Bool) (f : A → B) (g : B → C) (xs : List A)
+    → option_map (λ x. g (f x)) (find (λ x. test (f x)) xs) ≡ option_map g (find test (map f xs))
+find_made test f g [] = refl
+find_made test f g (x ∷ xs) =
+    elim (test (f x)) as (λ b. option_map (λ y. g (f y)) (cond b (Some x) (find (λ y. test (f y)) xs)) ≡ option_map g (cond b (Some (f x)) (find test (map f xs)))) [
+      | true ↦ refl
+      | false ↦ find_made test f g xs
     ]
 
 -- the first that passes

@@ -12,10 +12,6 @@ pub kind_entries : (name : List ℕ) (es : List (List ℕ × NameKind)) → valu
 kind_entries name [] = refl
 kind_entries name (e ∷ es) = ap (cond (same name e.0) (Some e.1)) (kind_entries name es)
 
-pub map-push : (es : List (List ℕ × NameKind)) (e : List ℕ × NameKind) → map known_entry (es ++ e ∷ []) ≡ map known_entry es ++ known_entry e ∷ []
-map-push [] e = refl
-map-push (x ∷ es) e = ap (λ l. known_entry x ∷ l) (map-push es e)
-
 reverse_one : {A : Type 0} (x : A) → reverse (x ∷ []) ≡ x ∷ []
 reverse_one x = refl
 

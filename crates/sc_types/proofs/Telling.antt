@@ -15,11 +15,12 @@ use Rattle.sc_syntax.proofs.Rows.{over_links, links_of}
 use Rattle.std.specs.declared.boxed.Box.{Box}
 use Rattle.std.specs.declared.vec.Vec.{Vec}
 use Rattle.std.specs.declared.alloc.Global.{Global}
+use Rattle.sc_syntax.specs.Alike.{pure_node, pure_links, pure_expr}
 use Rattle.sc_syntax.specs.NameKind.{Kinds, wider, number_kind, kind_of_operation, kind_of_unary, kind_of_node, kind_of_row, kind_of_expr, ◌>>=◌ as ◌=>>◌}
 use Rattle.sc_types.specs.declared.fault.TypeFault.{TypeFault}
 use Rattle.sc_types.specs.declared.fault.TypeFault.TheVariants.{WrongKind}
 use Rattle.sc_types.specs.Checks.{Check, check, first_fault}
-use Rattle.sc_types.specs.Numbers.{is_number, is_indexed, number_node, number_row, number_checks, is_int, int_checks}
+use Rattle.sc_types.specs.Numbers.{is_number, is_indexed, number_node, number_links, number_checks, is_int, int_checks}
 use Rattle.sc_types.specs.Sorts.{◌>>=◌, sort_of_name, fault_of_indexed, or_wrong, or_not_int, sort_of_node, sort_of_row, sort_of_links, sort_of, int_of}
 
 -- the first of two faults, where there is one
@@ -34,6 +35,13 @@ append_by false f x y z h = refl
 pub fault_append : (xs ys : List Check) → first_fault (xs ++ ys) ≡ or_else (first_fault xs) (first_fault ys)
 fault_append [] ys = refl
 fault_append (c ∷ xs) ys = append_by c.passes c.fault (first_fault (xs ++ ys)) (first_fault xs) (first_fault ys) (fault_append xs ys)
+
+-- a fault of the first list is that of both, and where the first passes it is that of the second
+pub first_fails : (cs ds : List Check) (f : TypeFault) → first_fault cs ≡ Some f → first_fault (cs ++ ds) ≡ Some f
+first_fails cs ds f e = fault_append cs ds ∙ ap (λ (x : Option TypeFault). or_else x (first_fault ds)) e
+
+pub first_passes : (cs ds : List Check) → first_fault cs ≡ None → first_fault (cs ++ ds) ≡ first_fault ds
+first_passes cs ds e = fault_append cs ds ∙ ap (λ (x : Option TypeFault). or_else x (first_fault ds)) e
 
 -- the answer tells the fault of the checks, or the kind
 abbrev pub Tells : Result NumSort TypeFault → List Check → Option NumSort → Type 0
@@ -83,49 +91,49 @@ tells_map (Ok a) cs k f h = (h.0, ap (λ (j : Option NumSort). j =>> λ x. Some 
 tells_map (Err e) cs k f h = h
 
 mutual
-  pub tells_node : (ks : Kinds) (at : Place) (n : Node) → Tells (sort_of_node ks at n) (number_node ks at n) (kind_of_node ks n)
+  pub tells_node : (ks : Kinds) (at : Place) (n : Node) → Tells (sort_of_node ks at n) (number_node ks at (pure_node n)) (kind_of_node ks n)
   tells_node ks at (Int n) = (refl, refl)
   tells_node ks at (Decimal d) = (refl, refl)
   tells_node ks at (Name t) = tells_name at (ks t)
   tells_node ks at (Index' t b p n) = tells_indexed at (ks t)
   tells_node ks at (Paren' b p n) = tells_node ks p n
-  tells_node ks at (Unary' o b p n) = tells_map (sort_of_node ks p n) (number_node ks p n) (kind_of_node ks n) (kind_of_unary o) (tells_node ks p n)
+  tells_node ks at (Unary' o b p n) = tells_map (sort_of_node ks p n) (number_node ks p (pure_node n)) (kind_of_node ks n) (kind_of_unary o) (tells_node ks p n)
   tells_node ks at (Chain' b p n shape row) =
-      tells_more (sort_of_node ks p n) (number_node ks p n) (kind_of_node ks n) (sort_of_row ks row) (λ k. number_row ks k row) (kind_of_row ks row) (tells_node ks p n) (λ a. tells_row ks row a)
+      tells_more (sort_of_node ks p n) (number_node ks p (pure_node n)) (kind_of_node ks n) (sort_of_row ks row) (λ k. number_links ks k (pure_links row)) (kind_of_row ks row) (tells_node ks p n) (λ a. tells_row ks row a)
   tells_node ks at (Pick' b1 p1 n1 b2 p2 n2 b3 p3 n3) =
-      tells_more (sort_of_node ks p1 n1) (number_node ks p1 n1) (kind_of_node ks n1)
-      (λ test. sort_of_node ks p2 n2 >>= λ a. sort_of_node ks p3 n3 >>= λ b. Ok (wider a b)) (λ k. number_node ks p2 n2 ++ number_node ks p3 n3)
+      tells_more (sort_of_node ks p1 n1) (number_node ks p1 (pure_node n1)) (kind_of_node ks n1)
+      (λ test. sort_of_node ks p2 n2 >>= λ a. sort_of_node ks p3 n3 >>= λ b. Ok (wider a b)) (λ k. number_node ks p2 (pure_node n2) ++ number_node ks p3 (pure_node n3))
       (λ test. kind_of_node ks n2 =>> λ a. kind_of_node ks n3 =>> λ b. Some (wider a b)) (tells_node ks p1 n1)
-      (λ test. tells_more (sort_of_node ks p2 n2) (number_node ks p2 n2) (kind_of_node ks n2)
-      (λ a. sort_of_node ks p3 n3 >>= λ b. Ok (wider a b)) (λ k. number_node ks p3 n3) (λ a. kind_of_node ks n3 =>> λ b. Some (wider a b)) (tells_node ks p2 n2)
-      (λ a. tells_map (sort_of_node ks p3 n3) (number_node ks p3 n3) (kind_of_node ks n3) (wider a) (tells_node ks p3 n3)))
+      (λ test. tells_more (sort_of_node ks p2 n2) (number_node ks p2 (pure_node n2)) (kind_of_node ks n2)
+      (λ a. sort_of_node ks p3 n3 >>= λ b. Ok (wider a b)) (λ k. number_node ks p3 (pure_node n3)) (λ a. kind_of_node ks n3 =>> λ b. Some (wider a b)) (tells_node ks p2 n2)
+      (λ a. tells_map (sort_of_node ks p3 n3) (number_node ks p3 (pure_node n3)) (kind_of_node ks n3) (wider a) (tells_node ks p3 n3)))
 
-  tells_row : {m : _} (ks : Kinds) (row : Row_of-Link m) (a : NumSort) → Tells (sort_of_row ks row a) (number_row ks (Some a) row) (kind_of_row ks row a)
+  tells_row : {m : _} (ks : Kinds) (row : Row_of-Link m) (a : NumSort) → Tells (sort_of_row ks row a) (number_links ks (Some a) (pure_links row)) (kind_of_row ks row a)
   tells_row ks end_of-Link a = (refl, refl)
   tells_row ks (more_of-Link o at p n rest) a =
-      tells_more (sort_of_node ks p n) (number_node ks p n) (kind_of_node ks n)
+      tells_more (sort_of_node ks p n) (number_node ks p (pure_node n)) (kind_of_node ks n)
       (λ b. or_wrong at (kind_of_operation o a b) >>= sort_of_row ks rest)
-      (λ k. check (is_some (k =>> kind_of_operation o a)) (WrongKind at) ∷ number_row ks (k =>> kind_of_operation o a) rest)
+      (λ k. check (is_some (k =>> kind_of_operation o a)) (WrongKind at) ∷ number_links ks (k =>> kind_of_operation o a) (pure_links rest))
       (λ b. kind_of_operation o a b =>> kind_of_row ks rest) (tells_node ks p n)
-      (λ b. tells_operated at (kind_of_operation o a b) (number_row ks (kind_of_operation o a b) rest) (sort_of_row ks rest) (kind_of_row ks rest)
-      (λ s e. subst (λ (k : Option NumSort). Tells (sort_of_row ks rest s) (number_row ks k rest) (kind_of_row ks rest s)) (sym e) (tells_row ks rest s)))
+      (λ b. tells_operated at (kind_of_operation o a b) (number_links ks (kind_of_operation o a b) (pure_links rest)) (sort_of_row ks rest) (kind_of_row ks rest)
+      (λ s e. subst (λ (k : Option NumSort). Tells (sort_of_row ks rest s) (number_links ks k (pure_links rest)) (kind_of_row ks rest s)) (sym e) (tells_row ks rest s)))
 
-tells_int_by : (ks : Kinds) (e : Expr) (r : Result NumSort TypeFault) → Tells r (number_checks ks e) (kind_of_expr ks e) → Tells (r >>= or_not_int e.place) (int_checks ks e) (kind_of_expr ks e)
+tells_int_by : (ks : Kinds) (e : Expr) (r : Result NumSort TypeFault) → Tells r (number_checks ks (pure_expr e)) (kind_of_expr ks e) → Tells (r >>= or_not_int e.place) (int_checks ks (pure_expr e)) (kind_of_expr ks e)
 tells_int_by ks e (Ok num.Int) h = (
-  fault_append (number_checks ks e) (check (is_int (kind_of_expr ks e)) (WrongKind e.place) ∷ [])
+  fault_append (number_checks ks (pure_expr e)) (check (is_int (kind_of_expr ks e)) (WrongKind e.place) ∷ [])
       ∙ ap (λ (x : Option TypeFault). or_else x (first_fault (check (is_int (kind_of_expr ks e)) (WrongKind e.place) ∷ []))) h.0
       ∙ ap (λ (k : Option NumSort). first_fault (check (is_int k) (WrongKind e.place) ∷ [])) h.1,
   h.1,
 )
 tells_int_by ks e (Ok num.Double) h =
-    fault_append (number_checks ks e) (check (is_int (kind_of_expr ks e)) (WrongKind e.place) ∷ [])
+    fault_append (number_checks ks (pure_expr e)) (check (is_int (kind_of_expr ks e)) (WrongKind e.place) ∷ [])
     ∙ ap (λ (x : Option TypeFault). or_else x (first_fault (check (is_int (kind_of_expr ks e)) (WrongKind e.place) ∷ []))) h.0
     ∙ ap (λ (k : Option NumSort). first_fault (check (is_int k) (WrongKind e.place) ∷ [])) h.1
 tells_int_by ks e (Err f) h =
-    fault_append (number_checks ks e) (check (is_int (kind_of_expr ks e)) (WrongKind e.place) ∷ [])
+    fault_append (number_checks ks (pure_expr e)) (check (is_int (kind_of_expr ks e)) (WrongKind e.place) ∷ [])
     ∙ ap (λ (x : Option TypeFault). or_else x (first_fault (check (is_int (kind_of_expr ks e)) (WrongKind e.place) ∷ []))) h
 
-pub tells_int : (ks : Kinds) (e : Expr) → Tells (int_of ks e) (int_checks ks e) (kind_of_expr ks e)
+pub tells_int : (ks : Kinds) (e : Expr) → Tells (int_of ks e) (int_checks ks (pure_expr e)) (kind_of_expr ks e)
 tells_int ks e = tells_int_by ks e (sort_of ks e) (tells_node ks e.place e.node)
 
 -- ---- chains as lists

@@ -1,5 +1,6 @@
 -- What the walk over the open scopes leaves stands for what the walk of the model declares, and its fault is the model's.
-use Rattle.std.proofs.Common.{◌≡◌, ℕ, ◌<◌, List, [], ◌∷◌, ◌++◌, length, drop, Option, Some, None, Result, Ok, Err, refl, sym, ap, subst, ◌∙◌, append_assoc, append-nil, arith}
+use Rattle.std.proofs.Common.{◌≡◌, ℕ, ◌<◌, List, [], ◌∷◌, ◌++◌, length, map, drop, Option, Some, None, Result, Ok, Err, refl, sym, ap, subst, ◌∙◌, append_assoc, append-nil, arith}
+use Rattle.std.specs.Prelude.{option_map}
 use Rattle.std.specs.List.{AllByRecursion}
 use Rattle.sc_base.specs.declared.Class.{Class}
 use Rattle.sc_syntax.specs.declared.NameKind.{NameKind}
@@ -8,6 +9,7 @@ use Rattle.sc_syntax.specs.declared.NumSort.{NumSort}
 use Rattle.sc_syntax.specs.declared.Name.{Name}
 use Rattle.sc_syntax.specs.declared.Decl.{Decl}
 use Rattle.sc_syntax.specs.declared.Init.{Init}
+use Rattle.sc_syntax.specs.Alike.{pure_expr, pure_decl, pure_init}
 use Rattle.sc_syntax.specs.NameKind.{Kinds}
 use Rattle.sc_types.specs.declared.fault.TypeFault.{TypeFault}
 use Rattle.sc_types.specs.Checks.{Check, first_fault}
@@ -17,7 +19,7 @@ use Rattle.sc_types.specs.Scopes.{Stack, Stands, kind_in, kinds_in, declared, le
 use Rattle.sc_types.specs.Sorts.{◌>>=◌}
 use Rattle.sc_types.specs.Statements.{Walk, only, in_turn, optional, wire_kind, start_checks, walk_decl, walk_decls, walk_init, walk_inits}
 use Rattle.sc_types.specs.Walking.{unless, wire_on, wires_on, init_on, inits_on, inside}
-use Rattle.sc_types.proofs.Telling.{or_else, fault_append}
+use Rattle.sc_types.proofs.Telling.{first_fails, first_passes}
 use Rattle.sc_types.proofs.Standing.{TellsDeclared, declaration, declare, same_declared, same_kinds}
 use Rattle.sc_types.proofs.Nesting.{every_append, every_weaker, AreBeside, AreInside, IsInside, IsMade, AreAlike, sees, step_in, enter, leave, made_inside, beside_longer, inside_shorter}
 
@@ -43,12 +45,6 @@ nothing P stack before place h = record {
   each = tt;
 }
 
-passes : (cs ds : List Check) → first_fault cs ≡ None → first_fault (cs ++ ds) ≡ first_fault ds
-passes cs ds e = fault_append cs ds ∙ ap (λ (x : Option TypeFault). or_else x (first_fault ds)) e
-
-fails : (cs ds : List Check) (f : TypeFault) → first_fault cs ≡ Some f → first_fault (cs ++ ds) ≡ Some f
-fails cs ds f e = fault_append cs ds ∙ ap (λ (x : Option TypeFault). or_else x (first_fault ds)) e
-
 -- checks come first
 pub guarded : (P : Declaration → Type 0) (cs : List Check) (r : Result Stack TypeFault) (stack : Stack) (before : List Declaration) (place : ScopePath) (w : Walk)
     → Tells P r stack before place w → Tells P (unless (first_fault cs) r) stack before place (record { checks = cs ++ w.checks; declares = w.declares })
@@ -56,9 +52,9 @@ guarded P cs r stack before place w h = by (first_fault cs) refl r h
   where
     by : (x : Option TypeFault) → first_fault cs ≡ x → (r : Result Stack TypeFault) → Tells P r stack before place w
         → Tells P (unless x r) stack before place (record { checks = cs ++ w.checks; declares = w.declares })
-    by None e (Ok after) h = record { fine = passes cs w.checks e ∙ h.fine; stands = h.stands; outer = h.outer; each = h.each }
-    by None e (Err f) h = passes cs w.checks e ∙ h
-    by (Some f) e r h = fails cs w.checks f e
+    by None e (Ok after) h = record { fine = first_passes cs w.checks e ∙ h.fine; stands = h.stands; outer = h.outer; each = h.each }
+    by None e (Err f) h = first_passes cs w.checks e ∙ h
+    by (Some f) e r h = first_fails cs w.checks f e
 
 -- checks alone, and then more that knows the same
 checks_first : (P : Declaration → Type 0) (cs : List Check) (r : Result Stack TypeFault) (stack : Stack) (before : List Declaration) (place : ScopePath) (b : List Declaration → Walk)
@@ -83,13 +79,13 @@ turns P Q R (Ok after) next stack before place a b p q h k = by (next after) (k 
   where
     by : (r : Result Stack TypeFault) → Tells Q r after (before ++ a.declares) place (b (before ++ a.declares)) → Tells R r stack before place (in_turn before a b)
     by (Ok last) w = record {
-      fine = passes a.checks (b (before ++ a.declares)).checks h.fine ∙ w.fine;
+      fine = first_passes a.checks (b (before ++ a.declares)).checks h.fine ∙ w.fine;
       stands = subst (λ (ds : List Declaration). Stands last ds place) (append_assoc before a.declares (b (before ++ a.declares)).declares) w.stands;
       outer = w.outer ∙ h.outer;
       each = every_append R a.declares (b (before ++ a.declares)).declares (every_weaker P R p a.declares h.each) (every_weaker Q R q (b (before ++ a.declares)).declares w.each);
     }
-    by (Err f) w = passes a.checks (b (before ++ a.declares)).checks h.fine ∙ w
-turns P Q R (Err f) next stack before place a b p q h k = fails a.checks (b (before ++ a.declares)).checks f h
+    by (Err f) w = first_passes a.checks (b (before ++ a.declares)).checks h.fine ∙ w
+turns P Q R (Err f) next stack before place a b p q h k = first_fails a.checks (b (before ++ a.declares)).checks f h
 
 -- the same walk, whose declarations are as a weaker word says
 pub weaker : (P Q : Declaration → Type 0) → ((d : Declaration) → P d → Q d) → (r : Result Stack TypeFault) (stack : Stack) (before : List Declaration) (place : ScopePath) (w : Walk)
@@ -166,31 +162,31 @@ name_told stack before place name k h = by (declared stack name k) (declare stac
     by (Err f) d = d
 
 wire_told : (c : Class) (stack : Stack) (before : List Declaration) (place : ScopePath) (d : Decl) → Stands stack before place
-    → Tells (IsHere place) (wire_on c stack d) stack before place (walk_decl before place c d)
+    → Tells (IsHere place) (wire_on c stack d) stack before place (walk_decl before place c (pure_decl d))
 wire_told c stack before place d h =
-    subst (λ (ks : Kinds). Tells (IsHere place) (unless (first_fault (optional (int_checks ks) d.size)) (declared stack d.name (wire_kind c d.size))) stack before place (walk_decl before place c d))
+    subst (λ (ks : Kinds). Tells (IsHere place) (unless (first_fault (optional (int_checks ks) (option_map pure_expr d.size))) (declared stack d.name (wire_kind c (option_map pure_expr d.size)))) stack before place (walk_decl before place c (pure_decl d)))
     (sym (same_kinds stack before place h))
-    (guarded (IsHere place) (optional (int_checks (kinds before place)) d.size) (declared stack d.name (wire_kind c d.size)) stack before place
-    (record { checks = is_new before place d.name ∷ []; declares = declaration d.name.text (wire_kind c d.size) place ∷ [] }) (name_told stack before place d.name (wire_kind c d.size) h))
+    (guarded (IsHere place) (optional (int_checks (kinds before place)) (option_map pure_expr d.size)) (declared stack d.name (wire_kind c (option_map pure_expr d.size))) stack before place
+    (record { checks = is_new before place d.name ∷ []; declares = declaration d.name.text (wire_kind c (option_map pure_expr d.size)) place ∷ [] }) (name_told stack before place d.name (wire_kind c (option_map pure_expr d.size)) h))
 
 init_told : (s : NumSort) (stack : Stack) (before : List Declaration) (place : ScopePath) (d : Init) → Stands stack before place
-    → Tells (IsHere place) (init_on s stack d) stack before place (walk_init before place s d)
+    → Tells (IsHere place) (init_on s stack d) stack before place (walk_init before place s (pure_init d))
 init_told s stack before place d h =
-    subst (λ (ks : Kinds). Tells (IsHere place) (unless (first_fault (optional (start_checks ks s) d.start)) (declared stack d.name (kind.Number s))) stack before place (walk_init before place s d))
+    subst (λ (ks : Kinds). Tells (IsHere place) (unless (first_fault (optional (start_checks ks s) (option_map pure_expr d.start))) (declared stack d.name (kind.Number s))) stack before place (walk_init before place s (pure_init d)))
     (sym (same_kinds stack before place h))
-    (guarded (IsHere place) (optional (start_checks (kinds before place) s) d.start) (declared stack d.name (kind.Number s)) stack before place
+    (guarded (IsHere place) (optional (start_checks (kinds before place) s) (option_map pure_expr d.start)) (declared stack d.name (kind.Number s)) stack before place
     (record { checks = is_new before place d.name ∷ []; declares = declaration d.name.text (kind.Number s) place ∷ [] }) (name_told stack before place d.name (kind.Number s) h))
 
 pub wires_told : (c : Class) (ds : List Decl) (stack : Stack) (before : List Declaration) (place : ScopePath) → Stands stack before place
-    → Tells (IsHere place) (wires_on c stack ds) stack before place (walk_decls before place c ds)
+    → Tells (IsHere place) (wires_on c stack ds) stack before place (walk_decls before place c (map pure_decl ds))
 wires_told c [] stack before place h = nothing (IsHere place) stack before place h
 wires_told c (d ∷ ds) stack before place h =
-    turns (IsHere place) (IsHere place) (IsHere place) (wire_on c stack d) (λ after. wires_on c after ds) stack before place (walk_decl before place c d) (λ known. walk_decls known place c ds)
-    (λ e p. p) (λ e p. p) (wire_told c stack before place d h) (λ after w. wires_told c ds after (before ++ (walk_decl before place c d).declares) place w.stands)
+    turns (IsHere place) (IsHere place) (IsHere place) (wire_on c stack d) (λ after. wires_on c after ds) stack before place (walk_decl before place c (pure_decl d)) (λ known. walk_decls known place c (map pure_decl ds))
+    (λ e p. p) (λ e p. p) (wire_told c stack before place d h) (λ after w. wires_told c ds after (before ++ (walk_decl before place c (pure_decl d)).declares) place w.stands)
 
 pub inits_told : (s : NumSort) (ds : List Init) (stack : Stack) (before : List Declaration) (place : ScopePath) → Stands stack before place
-    → Tells (IsHere place) (inits_on s stack ds) stack before place (walk_inits before place s ds)
+    → Tells (IsHere place) (inits_on s stack ds) stack before place (walk_inits before place s (map pure_init ds))
 inits_told s [] stack before place h = nothing (IsHere place) stack before place h
 inits_told s (d ∷ ds) stack before place h =
-    turns (IsHere place) (IsHere place) (IsHere place) (init_on s stack d) (λ after. inits_on s after ds) stack before place (walk_init before place s d) (λ known. walk_inits known place s ds)
-    (λ e p. p) (λ e p. p) (init_told s stack before place d h) (λ after w. inits_told s ds after (before ++ (walk_init before place s d).declares) place w.stands)
+    turns (IsHere place) (IsHere place) (IsHere place) (init_on s stack d) (λ after. inits_on s after ds) stack before place (walk_init before place s (pure_init d)) (λ known. walk_inits known place s (map pure_init ds))
+    (λ e p. p) (λ e p. p) (init_told s stack before place d h) (λ after w. inits_told s ds after (before ++ (walk_init before place s (pure_init d)).declares) place w.stands)

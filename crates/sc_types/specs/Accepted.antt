@@ -1,8 +1,7 @@
 -- What acceptance gives, over trees without addresses: each expression has its kind, each call fits what it calls, and each
 -- name is declared once in its scope.
-use Rattle.std.specs.Prelude.{◌≡◌, ℕ, ◌+◌, Bool, true, false, ◌&&◌, Option, Some, None, option_map, List, [], ◌∷◌, ◌++◌, length, map, find, replicate}
+use Rattle.std.specs.Prelude.{◌≡◌, ℕ, ◌+◌, Bool, true, Option, Some, None, List, [], ◌∷◌, ◌++◌, length}
 use Rattle.std.specs.List.{list_any}
-use Rattle.sc_base.specs.Texts.{same}
 use Rattle.sc_base.specs.declared.Class.{Class}
 use Rattle.sc_base.specs.declared.Class.TheVariants.{Q, C}
 use Rattle.sc_syntax.specs.declared.NameKind.{NameKind}
@@ -19,11 +18,12 @@ use Rattle.sc_syntax.specs.Formed.{IsMeasuring}
 use Rattle.sc_syntax.specs.NameKind.{Kinds, kind_of, kind_of_operation}
 use Rattle.sc_word.specs.Typed.{TypedWords, TypesPureFn}
 use Rattle.sc_types.specs.declared.want.Want.{Want}
-use Rattle.sc_types.specs.declared.want.Want.TheVariants.{OneWire, ManyWires, Word, AnInt, ADouble}
+use Rattle.sc_types.specs.declared.want.Want.TheVariants.{OneWire, AnInt, ADouble}
 use Rattle.sc_types.specs.Declarations.{or_pi}
 use Rattle.sc_types.specs.Parameters.{or_int}
 use Rattle.sc_types.specs.Scopes.{Known, Stack, known, kind_here, kind_in, kinds_in}
-use Rattle.sc_types.specs.Statements.{goes_into, set_by}
+use Rattle.sc_types.specs.Sources.{is_int_named, param_kind}
+use Rattle.sc_types.specs.Statements.{goes_into, set_by, wire_kind, named_wants}
 use Rattle.sc_types.specs.Typing.{TypedSource}
 use Rattle.sc_types.specs.Wires.{suits, suits_indexed, gate_wants}
 
@@ -91,19 +91,15 @@ IsNew here name = kind_here here name.text ≡ None
 abbrev pub with_name : List Known → Name → NameKind → List Known
 with_name here name k = here ++ known name.text k ∷ []
 
-abbrev pub kind_of_wire : Class → Option PureExpr → NameKind
-kind_of_wire c None = kind.One c
-kind_of_wire c (Some e) = kind.Many c
-
 abbrev pub with_wires : Class → List Known → List PureNamed → List Known
 with_wires c here [] = here
-with_wires c here (d ∷ ds) = with_wires c (with_name here d.name (kind_of_wire c d.value)) ds
+with_wires c here (d ∷ ds) = with_wires c (with_name here d.name (wire_kind c d.value)) ds
 
 -- each size is an int, and each name is new
 abbrev pub AreWires : Class → Stack → List Known → List PureNamed → Type 0
 AreWires c outer here [] = Unit {0}
 AreWires c outer here (d ∷ ds) =
-    IfThere (IsInt (kinds_in (here ∷ outer))) d.value × IsNew here d.name × AreWires c outer (with_name here d.name (kind_of_wire c d.value)) ds
+    IfThere (IsInt (kinds_in (here ∷ outer))) d.value × IsNew here d.name × AreWires c outer (with_name here d.name (wire_kind c d.value)) ds
 
 abbrev pub with_numbers : NumSort → List Known → List PureNamed → List Known
 with_numbers s here [] = here
@@ -184,22 +180,9 @@ abbrev mutual
 
 -- ---- parameters of a module
 
-abbrev pub kind_of_sort : PureSort → NameKind
-kind_of_sort (PureSort.one c) = kind.One c
-kind_of_sort (PureSort.many c e) = kind.Many c
-kind_of_sort PureSort.int = kind.Number num.Int
-kind_of_sort PureSort.double = kind.Number num.Double
-
-abbrev pub is_int_of_name : List ℕ → PureParam → Bool
-is_int_of_name name p = same name p.name.text && is_int_sort p.sort
-  where
-    is_int_sort : PureSort → Bool
-    is_int_sort PureSort.int = true
-    is_int_sort _ = false
-
 -- a length names an earlier parameter, else a later `int` parameter, else `M_PI`
 abbrev pub names_of_length : List Known → List PureParam → Kinds
-names_of_length here later name = or_pi name (or_int (list_any (is_int_of_name name) later) (kind_in (here ∷ []) name))
+names_of_length here later name = or_pi name (or_int (list_any (is_int_named name) later) (kind_in (here ∷ []) name))
 
 -- a stated length is an int
 abbrev pub HasLength : Kinds → PureSort → Type 0
@@ -209,32 +192,13 @@ HasLength ks _ = Unit {0}
 -- each name is new
 abbrev pub AreParams : List Known → List PureParam → Type 0
 AreParams here [] = Unit {0}
-AreParams here (p ∷ ps) = HasLength (names_of_length here ps) p.sort × IsNew here p.name × AreParams (with_name here p.name (kind_of_sort p.sort)) ps
+AreParams here (p ∷ ps) = HasLength (names_of_length here ps) p.sort × IsNew here p.name × AreParams (with_name here p.name (param_kind p.sort)) ps
 
 abbrev pub with_params : List Known → List PureParam → List Known
 with_params here [] = here
-with_params here (p ∷ ps) = with_params (with_name here p.name (kind_of_sort p.sort)) ps
+with_params here (p ∷ ps) = with_params (with_name here p.name (param_kind p.sort)) ps
 
 -- ---- sources
-
-abbrev pub name_of_part : PurePart → List ℕ
-name_of_part (of_module name params body) = name.text
-name_of_part (of_words name params width binds result) = name.text
-
-abbrev pub want_of_sort : PureSort → Want
-want_of_sort (PureSort.one c) = OneWire c
-want_of_sort (PureSort.many c e) = ManyWires c
-want_of_sort PureSort.int = AnInt
-want_of_sort PureSort.double = ADouble
-
--- what a part takes; a classical function takes its words, and then its output
-abbrev pub taken_by : PurePart → List Want
-taken_by (of_module name params body) = map (λ p. want_of_sort p.sort) params
-taken_by (of_words name params width binds result) = replicate (length params + 1) Word
-
--- a called name means the first part of that name
-abbrev pub taken_in : List PurePart → Taken
-taken_in parts name = option_map taken_by (find (λ p. same name (name_of_part p)) parts)
 
 -- the parameters of a module, and its statements behind them; a classical function has its typed function
 abbrev pub IsAcceptedPart : Taken → PurePart → Option TypedWords → Type 0
@@ -251,4 +215,4 @@ AreAccepted taken _ _ = ⊥
 
 -- each part of the source is accepted
 abbrev pub IsAccepted : TypedSource → Type 0
-IsAccepted t = AreAccepted (taken_in (pure_source t.source)) (pure_source t.source) t.words
+IsAccepted t = AreAccepted (named_wants (pure_source t.source)) (pure_source t.source) t.words

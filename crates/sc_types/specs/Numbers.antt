@@ -1,4 +1,5 @@
--- The checks of an expression where a number is needed: the operands from left to right, then the operator.
+-- The checks of an expression where a number is needed: the operands from left to right, then the operator. They are those of
+-- the tree without its addresses, as all checks are, so that alike trees have one fault.
 use Rattle.std.specs.Prelude.{Bool, true, false, is_some, Option, Some, None, List, [], ◌∷◌, ◌++◌}
 use Rattle.sc_base.specs.declared.Place.{Place}
 use Rattle.sc_base.specs.declared.Class.TheVariants.{Q, C}
@@ -7,9 +8,8 @@ use Rattle.sc_syntax.specs.declared.NameKind.TheVariants.{Number, One, Many}
 use Rattle.sc_syntax.specs.declared.BinOp.{BinOp}
 use Rattle.sc_syntax.specs.declared.NumSort.{NumSort}
 use Rattle.sc_syntax.specs.declared.NumSort.TheVariants as num
-use Rattle.sc_syntax.specs.declared.Expr.{Expr}
-use Rattle.sc_syntax.specs.declared.Node.{Node, Int, Decimal, Name, Index', Paren', Unary', Chain', Pick', Row_of-Link, end_of-Link, more_of-Link}
-use Rattle.sc_syntax.specs.NameKind.{Kinds, ◌>>=◌, kind_of_operation, kind_of_node, kind_of_expr}
+use Rattle.sc_syntax.specs.Alike.{PureExpr, PureNode, PureLinks}
+use Rattle.sc_syntax.specs.NameKind.{Kinds, ◌>>=◌, kind_of, kind_of_operation}
 use Rattle.sc_types.specs.declared.fault.TypeFault.TheVariants.{UnknownName, WrongKind, MeasuredUse}
 use Rattle.sc_types.specs.Checks.{Check, check}
 
@@ -34,25 +34,25 @@ abbrev pub may_operate : Place → BinOp → Option NumSort → Option NumSort �
 may_operate at o a b = check (is_some (a >>= λ x. b >>= kind_of_operation o x)) (WrongKind at)
 
 abbrev mutual
-  pub number_node : Kinds → Place → Node → List Check
-  number_node ks at (Int n) = []
-  number_node ks at (Decimal d) = []
-  number_node ks at (Name t) = is_number at (ks t) ∷ []
-  number_node ks at (Index' t b p n) = is_indexed at (ks t) ∷ []
-  number_node ks at (Paren' b p n) = number_node ks p n
-  number_node ks at (Unary' o b p n) = number_node ks p n
-  number_node ks at (Chain' b p n shape row) = number_node ks p n ++ number_row ks (kind_of_node ks n) row
-  number_node ks at (Pick' b1 p1 n1 b2 p2 n2 b3 p3 n3) = number_node ks p1 n1 ++ (number_node ks p2 n2 ++ number_node ks p3 n3)
+  pub number_node : Kinds → Place → PureNode → List Check
+  number_node ks at (PureNode.int n) = []
+  number_node ks at (PureNode.decimal d) = []
+  number_node ks at (PureNode.name t) = is_number at (ks t) ∷ []
+  number_node ks at (PureNode.index t p n) = is_indexed at (ks t) ∷ []
+  number_node ks at (PureNode.paren p n) = number_node ks p n
+  number_node ks at (PureNode.unary o p n) = number_node ks p n
+  number_node ks at (PureNode.chain p n links) = number_node ks p n ++ number_links ks (kind_of ks n) links
+  number_node ks at (PureNode.pick p1 n1 p2 n2 p3 n3) = number_node ks p1 n1 ++ (number_node ks p2 n2 ++ number_node ks p3 n3)
 
   -- a chain is grouped from the left; a is the kind of what stands to the left
-  pub number_row : {m : _} → Kinds → Option NumSort → Row_of-Link m → List Check
-  number_row ks a end_of-Link = []
-  number_row ks a (more_of-Link o at p n rest) =
-      number_node ks p n ++ may_operate at o a (kind_of_node ks n)
-      ∷ number_row ks (a >>= λ x. kind_of_node ks n >>= kind_of_operation o x) rest
+  pub number_links : Kinds → Option NumSort → PureLinks → List Check
+  number_links ks a PureLinks.no_links = []
+  number_links ks a (PureLinks.link o at p n rest) =
+      number_node ks p n ++ may_operate at o a (kind_of ks n)
+      ∷ number_links ks (a >>= λ x. kind_of ks n >>= kind_of_operation o x) rest
 
 -- a number of either kind: a condition, or where a double is needed
-abbrev pub number_checks : Kinds → Expr → List Check
+abbrev pub number_checks : Kinds → PureExpr → List Check
 number_checks ks e = number_node ks e.place e.node
 
 abbrev pub is_int : Option NumSort → Bool
@@ -60,5 +60,5 @@ is_int (Some num.Int) = true
 is_int _ = false
 
 -- an int
-abbrev pub int_checks : Kinds → Expr → List Check
-int_checks ks e = number_checks ks e ++ check (is_int (kind_of_expr ks e)) (WrongKind e.place) ∷ []
+abbrev pub int_checks : Kinds → PureExpr → List Check
+int_checks ks e = number_checks ks e ++ check (is_int (kind_of ks e.node)) (WrongKind e.place) ∷ []

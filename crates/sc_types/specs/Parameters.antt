@@ -7,6 +7,7 @@ use Rattle.sc_syntax.specs.declared.NumSort.TheVariants as num
 use Rattle.sc_syntax.specs.declared.Param.{Param}
 use Rattle.sc_syntax.specs.declared.Sort.{Sort}
 use Rattle.sc_syntax.specs.declared.Sort.TheVariants as sort
+use Rattle.sc_syntax.specs.Alike.{pure_sort, pure_param}
 use Rattle.sc_syntax.specs.NameKind.{Kinds}
 use Rattle.sc_types.specs.declared.fault.TypeFault.{TypeFault}
 use Rattle.sc_types.specs.Checks.{first_fault}
@@ -18,9 +19,13 @@ use Rattle.sc_types.specs.Sources.{is_int_named, length_checks, param_kind}
 use Rattle.sc_types.specs.Tables.{Table, number_under}
 use Rattle.sc_types.specs.Walking.{unless}
 
+-- an `int` parameter of this name
+abbrev pub is_int_param : List ℕ → Param → Bool
+is_int_param name p = is_int_named name (pure_param p)
+
 -- the table has for each name the position of the last `int` parameter of that name
 pub record FindsLastInt (params : List Param) (table : Table) : Type 0 where
-  pub each : (name : List ℕ) → number_under table name ≡ last_at (is_int_named name) params
+  pub each : (name : List ℕ) → number_under table name ≡ last_at (is_int_param name) params
 
 -- the position put under the name of an `int` parameter
 abbrev pub noted : Table → Param → ℕ → Table
@@ -40,7 +45,7 @@ length_names last i stack name = or_pi name (or_int (is_past i (number_under las
 
 -- the length, and then the name
 abbrev pub param_on : Table → ℕ → Stack → Param → Result Stack TypeFault
-param_on last i stack p = unless (first_fault (length_checks (length_names last i stack) p.sort)) (declared stack p.name (param_kind p.sort))
+param_on last i stack p = unless (first_fault (length_checks (length_names last i stack) (pure_sort p.sort))) (declared stack p.name (param_kind (pure_sort p.sort)))
 
 -- the parameters from the i-th on
 abbrev pub params_on : Table → ℕ → Stack → List Param → Result Stack TypeFault

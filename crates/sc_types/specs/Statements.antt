@@ -11,21 +11,12 @@ use Rattle.sc_syntax.specs.declared.NumSort.TheVariants as num
 use Rattle.sc_syntax.specs.declared.BinOp.{BinOp}
 use Rattle.sc_syntax.specs.declared.BinOp.TheVariants as op
 use Rattle.sc_syntax.specs.declared.SetOp.{SetOp}
-use Rattle.sc_syntax.specs.declared.SetOp.TheVariants as set
-use Rattle.sc_syntax.specs.declared.Expr.{Expr}
-use Rattle.sc_syntax.specs.declared.Decl.{Decl}
-use Rattle.sc_syntax.specs.declared.Init.{Init}
-use Rattle.sc_syntax.specs.declared.Set.{Set as SetOf}
-use Rattle.sc_syntax.specs.declared.Measure.{Measure as MeasureOf}
-use Rattle.sc_syntax.specs.declared.Call.{Call as CallOf}
+use Rattle.sc_syntax.specs.declared.SetOp.TheVariants as mark
+use Rattle.sc_syntax.specs.declared.Name.{Name}
 use Rattle.sc_syntax.specs.declared.Callee.{Callee}
 use Rattle.sc_syntax.specs.declared.Callee.TheVariants.{Gate, Named}
-use Rattle.sc_syntax.specs.declared.Act.{Act, Wires, Numbers, Set, Measure, Call, If', While', For', Block', Empty, Held-Act-If-2, None', Some', Row_of-Stmt, end_of-Stmt, more_of-Stmt}
-use Rattle.sc_syntax.specs.declared.Part.{Part}
-use Rattle.sc_syntax.specs.declared.Part.TheVariants as part
-use Rattle.sc_syntax.specs.declared.Sort.{Sort}
-use Rattle.sc_syntax.specs.declared.Sort.TheVariants as sort
-use Rattle.sc_syntax.specs.NameKind.{Kinds, ◌>>=◌, kind_of_expr, kind_of_operation}
+use Rattle.sc_syntax.specs.Alike.{PureExpr, PureNamed, PureAct, PureHeld, PureStmts, wires, numbers, set, measure, call, if_else, while_loop, for_loop, block, empty, absent, held, no_stmts, stmt, PureSort, PurePart, of_module, of_words}
+use Rattle.sc_syntax.specs.NameKind.{Kinds, ◌>>=◌, kind_of, kind_of_operation}
 use Rattle.sc_types.specs.declared.fault.TypeFault.TheVariants.{UnknownName, WrongKind, WrongCount}
 use Rattle.sc_types.specs.Checks.{Check, check}
 use Rattle.sc_types.specs.Declarations.{Declaration, ScopePath, kinds, with_pi, declared_kind, is_pi, is_new}
@@ -50,36 +41,36 @@ in_turn before a b =
 
 -- ---- declarations: the size or start, and then the name, which is known from there on
 
-abbrev pub optional : (Expr → List Check) → Option Expr → List Check
+abbrev pub optional : (PureExpr → List Check) → Option PureExpr → List Check
 optional checks None = []
 optional checks (Some e) = checks e
 
-abbrev pub wire_kind : Class → Option Expr → NameKind
+abbrev pub wire_kind : Class → Option PureExpr → NameKind
 wire_kind c None = kind.One c
 wire_kind c (Some e) = kind.Many c
 
-abbrev pub walk_decl : List Declaration → ScopePath → Class → Decl → Walk
+abbrev pub walk_decl : List Declaration → ScopePath → Class → PureNamed → Walk
 walk_decl before scope c d = record {
-  checks = optional (int_checks (kinds before scope)) d.size ++ is_new before scope d.name ∷ [];
-  declares = record { name = d.name.text; kind = wire_kind c d.size; scope = scope } ∷ [];
+  checks = optional (int_checks (kinds before scope)) d.value ++ is_new before scope d.name ∷ [];
+  declares = record { name = d.name.text; kind = wire_kind c d.value; scope = scope } ∷ [];
 }
 
 -- the start of an `int` is an int, that of a double any number
-abbrev pub start_checks : Kinds → NumSort → Expr → List Check
+abbrev pub start_checks : Kinds → NumSort → PureExpr → List Check
 start_checks ks num.Int e = int_checks ks e
 start_checks ks num.Double e = number_checks ks e
 
-abbrev pub walk_init : List Declaration → ScopePath → NumSort → Init → Walk
+abbrev pub walk_init : List Declaration → ScopePath → NumSort → PureNamed → Walk
 walk_init before scope s d = record {
-  checks = optional (start_checks (kinds before scope) s) d.start ++ is_new before scope d.name ∷ [];
+  checks = optional (start_checks (kinds before scope) s) d.value ++ is_new before scope d.name ∷ [];
   declares = record { name = d.name.text; kind = kind.Number s; scope = scope } ∷ [];
 }
 
-abbrev pub walk_decls : List Declaration → ScopePath → Class → List Decl → Walk
+abbrev pub walk_decls : List Declaration → ScopePath → Class → List PureNamed → Walk
 walk_decls before scope c [] = only []
 walk_decls before scope c (d ∷ ds) = in_turn before (walk_decl before scope c d) (λ known. walk_decls known scope c ds)
 
-abbrev pub walk_inits : List Declaration → ScopePath → NumSort → List Init → Walk
+abbrev pub walk_inits : List Declaration → ScopePath → NumSort → List PureNamed → Walk
 walk_inits before scope s [] = only []
 walk_inits before scope s (d ∷ ds) = in_turn before (walk_init before scope s d) (λ known. walk_inits known scope s ds)
 
@@ -102,98 +93,95 @@ goes_into _ _ = true
 
 -- `x op= e` is `x = x op e`, where the operator stands at the mark
 abbrev pub set_by : SetOp → Option BinOp
-set_by set.Add = Some op.Add
-set_by set.Sub = Some op.Sub
-set_by set.Mul = Some op.Mul
-set_by set.Div = Some op.Div
-set_by set.Rem = Some op.Rem
+set_by mark.Add = Some op.Add
+set_by mark.Sub = Some op.Sub
+set_by mark.Mul = Some op.Mul
+set_by mark.Div = Some op.Div
+set_by mark.Rem = Some op.Rem
 set_by _ = None
 
 abbrev pub fit_checks : Place → Place → Option NumSort → Option BinOp → Option NumSort → List Check
-fit_checks name mark x None e = check (goes_into x e) (WrongKind name) ∷ []
-fit_checks name mark x (Some o) e =
-    may_operate mark o x e ∷ check (goes_into x (x >>= λ a. e >>= kind_of_operation o a)) (WrongKind name) ∷ []
+fit_checks name at x None e = check (goes_into x e) (WrongKind name) ∷ []
+fit_checks name at x (Some o) e =
+    may_operate at o x e ∷ check (goes_into x (x >>= λ a. e >>= kind_of_operation o a)) (WrongKind name) ∷ []
 
-abbrev pub set_checks : Kinds → SetOf → List Check
-set_checks declared s =
-    may_set s.name.place (is_pi s.name.text) (declared s.name.text)
+abbrev pub set_checks : Kinds → Name → SetOp → Place → Option PureExpr → List Check
+set_checks declared name o at value =
+    may_set name.place (is_pi name.text) (declared name.text)
     ∷ optional (λ e. number_checks (with_pi declared) e
-    ++ fit_checks s.name.place s.place (number_of (declared s.name.text)) (set_by s.op) (kind_of_expr (with_pi declared) e)) s.value
+    ++ fit_checks name.place at (number_of (declared name.text)) (set_by o) (kind_of (with_pi declared) e.node)) value
 
 -- the left side with its index, and then the measured operand
-abbrev pub measure_checks : Kinds → MeasureOf → List Check
-measure_checks ks m = operand_checks ks (OneWire C) m.into ++ operand_checks ks (OneWire Q) m.from
+abbrev pub measure_checks : Kinds → PureNamed → PureNamed → List Check
+measure_checks ks into from = operand_checks ks (OneWire C) into ++ operand_checks ks (OneWire Q) from
 
 -- ---- a call: the name, then the number of arguments, then the arguments from left to right
 
-abbrev pub part_name : Part → List ℕ
-part_name (part.Module m) = m.name.text
-part_name (part.Words f) = f.name.text
+abbrev pub part_name : PurePart → List ℕ
+part_name (of_module name params body) = name.text
+part_name (of_words name params width binds result) = name.text
 
 -- a called name means the first definition of that name in the source
-abbrev pub definition : List Part → List ℕ → Option Part
+abbrev pub definition : List PurePart → List ℕ → Option PurePart
 definition parts name = find (λ p. same name (part_name p)) parts
 
-abbrev pub param_want : Sort → Want
-param_want (sort.One c) = OneWire c
-param_want (sort.Many c e) = ManyWires c
-param_want sort.Int = AnInt
-param_want sort.Double = ADouble
+abbrev pub param_want : PureSort → Want
+param_want (PureSort.one c) = OneWire c
+param_want (PureSort.many c e) = ManyWires c
+param_want PureSort.int = AnInt
+param_want PureSort.double = ADouble
 
 -- a classical function takes its words, and then its output
-abbrev pub part_wants : Part → List Want
-part_wants (part.Module m) = map (λ p. param_want p.sort) m.params
-part_wants (part.Words f) = replicate (length f.params + 1) Word
+abbrev pub part_wants : PurePart → List Want
+part_wants (of_module name params body) = map (λ p. param_want p.sort) params
+part_wants (of_words name params width binds result) = replicate (length params + 1) Word
 
-abbrev pub applied : Kinds → Place → List Want → List Expr → List Check
+abbrev pub applied : Kinds → Place → List Want → List PureExpr → List Check
 applied ks at wants args = check (nat_eq (length args) (length wants)) (WrongCount at) ∷ arguments_checks ks wants args
 
 -- what a called name takes
-abbrev pub named_wants : List Part → List ℕ → Option (List Want)
+abbrev pub named_wants : List PurePart → List ℕ → Option (List Want)
 named_wants parts name = option_map part_wants (definition parts name)
 
-abbrev pub called : Kinds → Place → Option (List Want) → List Expr → List Check
+abbrev pub called : Kinds → Place → Option (List Want) → List PureExpr → List Check
 called ks at None args = check false (UnknownName at) ∷ []
 called ks at (Some wants) args = applied ks at wants args
 
-abbrev pub call_checks : List Part → Kinds → CallOf → List Check
-call_checks parts ks c = by_callee c.callee
-  where
-    by_callee : Callee → List Check
-    by_callee (Gate g) = applied ks c.place (gate_wants g (length c.args)) c.args
-    by_callee (Named t) = called ks c.place (named_wants parts t) c.args
+abbrev pub call_checks : List PurePart → Kinds → Callee → Place → List PureExpr → List Check
+call_checks parts ks (Gate g) at args = applied ks at (gate_wants g (length args)) args
+call_checks parts ks (Named t) at args = called ks at (named_wants parts t) args
 
 -- ---- statements; `scope` is the scope that they stand in, and `own` a scope for the statement's own parts
 
 abbrev mutual
-  pub walk_act : List Part → List Declaration → ScopePath → ScopePath → Act → Walk
-  walk_act parts before scope own (Wires c ds) = walk_decls before scope c ds
-  walk_act parts before scope own (Numbers s ds) = walk_inits before scope s ds
-  walk_act parts before scope own (Set s) = only (set_checks (declared_kind before scope) s)
-  walk_act parts before scope own (Measure m) = only (measure_checks (kinds before scope) m)
-  walk_act parts before scope own (Call c) = only (call_checks parts (kinds before scope) c)
+  pub walk_act : List PurePart → List Declaration → ScopePath → ScopePath → PureAct → Walk
+  walk_act parts before scope own (wires c ds) = walk_decls before scope c ds
+  walk_act parts before scope own (numbers s ds) = walk_inits before scope s ds
+  walk_act parts before scope own (set name o at value) = only (set_checks (declared_kind before scope) name o at value)
+  walk_act parts before scope own (measure g into from) = only (measure_checks (kinds before scope) into from)
+  walk_act parts before scope own (call c at args) = only (call_checks parts (kinds before scope) c at args)
   -- a body has a scope of its own, also where it is one declaration
-  walk_act parts before scope own (If' e b p act other) =
+  walk_act parts before scope own (if_else e p act other) =
       in_turn before (only (number_checks (kinds before scope) e)) (λ known.
       in_turn known (walk_act parts known (own ++ 0 ∷ []) (own ++ 0 ∷ 0 ∷ []) act) (λ known.
       walk_held parts known (own ++ 1 ∷ []) (own ++ 1 ∷ 0 ∷ []) other))
-  walk_act parts before scope own (While' e b p act) =
+  walk_act parts before scope own (while_loop e p act) =
       in_turn before (only (number_checks (kinds before scope) e)) (λ known. walk_act parts known (own ++ 0 ∷ []) (own ++ 0 ∷ 0 ∷ []) act)
   -- the start declares in the scope of the `for`; the advance stands before the body
-  walk_act parts before scope own (For' start test advance b p act) =
+  walk_act parts before scope own (for_loop start test advance p act) =
       in_turn before (walk_held parts before own (own ++ 0 ∷ []) start) (λ known.
       in_turn known (only (optional (number_checks (kinds known own)) test)) (λ known.
       in_turn known (walk_held parts known own (own ++ 1 ∷ []) advance) (λ known.
       walk_act parts known (own ++ 2 ∷ []) (own ++ 2 ∷ 0 ∷ []) act)))
-  walk_act parts before scope own (Block' shape row) = walk_row parts before own 0 row
-  walk_act parts before scope own Empty = only []
+  walk_act parts before scope own (block ss) = walk_row parts before own 0 ss
+  walk_act parts before scope own empty = only []
 
-  pub walk_held : List Part → List Declaration → ScopePath → ScopePath → Held-Act-If-2 → Walk
-  walk_held parts before scope own None' = only []
-  walk_held parts before scope own (Some' b p act) = walk_act parts before scope own act
+  pub walk_held : List PurePart → List Declaration → ScopePath → ScopePath → PureHeld → Walk
+  walk_held parts before scope own absent = only []
+  walk_held parts before scope own (held p act) = walk_act parts before scope own act
 
   -- statements from the i-th on
-  pub walk_row : {m : _} → List Part → List Declaration → ScopePath → ℕ → Row_of-Stmt m → Walk
-  walk_row parts before scope i end_of-Stmt = only []
-  walk_row parts before scope i (more_of-Stmt place act rest) =
+  pub walk_row : List PurePart → List Declaration → ScopePath → ℕ → PureStmts → Walk
+  walk_row parts before scope i no_stmts = only []
+  walk_row parts before scope i (stmt place act rest) =
       in_turn before (walk_act parts before scope (scope ++ i ∷ []) act) (λ known. walk_row parts known scope (suc i) rest)

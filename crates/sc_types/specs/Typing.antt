@@ -7,14 +7,14 @@ use Rattle.sc_syntax.specs.declared.Part.{Part}
 use Rattle.sc_syntax.specs.declared.Part.TheVariants as part
 use Rattle.sc_syntax.specs.declared.WordFn.{WordFn}
 use Rattle.sc_syntax.specs.contracts.Source as source_type
-use Rattle.sc_syntax.specs.Alike.{Alike}
+use Rattle.sc_syntax.specs.Alike.{Alike, pure_part}
 use Rattle.sc_syntax.specs.Formed.{IsFormedSource}
 use Rattle.sc_word.specs.Typed.{TypedWords, TypesFn}
 use Rattle.sc_word.specs.Functions.{typed_words_code}
 use Rattle.sc_types.specs.FirstParts.{has_name}
 use Rattle.sc_types.specs.Positions.{first_at}
 use Rattle.sc_types.specs.Statements.{part_name}
-use Rattle.sc_types.specs.Sources.{is_main, fault_of}
+use Rattle.sc_types.specs.Sources.{is_main_part, fault_of}
 
 -- no check fails
 abbrev pub IsWellTyped : Source → Type 0
@@ -26,7 +26,7 @@ HasOneFault = (a b : Source) → Alike a b → fault_of a ≡ fault_of b
 
 -- the position of the module `main`
 abbrev pub main_at : Source → Option ℕ
-main_at source = first_at is_main source.parts
+main_at source = first_at is_main_part source.parts
 
 -- the position of the first part of a name
 abbrev pub part_at : Source → List ℕ → Option ℕ
@@ -41,7 +41,7 @@ pub record HasMain (source : Source) (i : ℕ) : Type 0 where
 
 -- no two parts have one name
 abbrev pub HaveDistinctNames : List Part → Type 0
-HaveDistinctNames parts = (i j : ℕ) (p q : Part) → slice_get parts i ≡ Some p → slice_get parts j ≡ Some q → part_name p ≡ part_name q → i ≡ j
+HaveDistinctNames parts = (i j : ℕ) (p q : Part) → slice_get parts i ≡ Some p → slice_get parts j ≡ Some q → part_name (pure_part p) ≡ part_name (pure_part q) → i ≡ j
 
 -- a classical function has its typed function, and a module has none
 abbrev pub IsTyped : Part → Option TypedWords → Type 0

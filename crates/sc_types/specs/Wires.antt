@@ -7,9 +7,7 @@ use Rattle.sc_base.specs.declared.GateName.{GateName}
 use Rattle.sc_base.specs.declared.GateName.TheVariants as gate
 use Rattle.sc_syntax.specs.declared.NameKind.{NameKind}
 use Rattle.sc_syntax.specs.declared.NameKind.TheVariants as kind
-use Rattle.sc_syntax.specs.declared.Expr.{Expr}
-use Rattle.sc_syntax.specs.declared.Operand.{Operand}
-use Rattle.sc_syntax.specs.declared.Node.{Node, Name, Index'}
+use Rattle.sc_syntax.specs.Alike.{PureExpr, PureNode, PureNamed}
 use Rattle.sc_syntax.specs.NameKind.{Kinds}
 use Rattle.sc_types.specs.declared.want.Want.{Want}
 use Rattle.sc_types.specs.declared.want.Want.TheVariants.{OneWire, ManyWires, Word, AnInt, ADouble}
@@ -42,26 +40,26 @@ is_wire suited at None = check false (UnknownName at)
 is_wire suited at (Some k) = check (suited k) (WrongKind at)
 
 -- a wire is a name or an indexed name: the name and its kind, then the index; what is no name is walked no further
-abbrev pub wire_node : Kinds → Want → Place → Node → List Check
-wire_node ks want at (Name t) = is_wire (suits want) at (ks t) ∷ []
-wire_node ks want at (Index' t b p n) = is_wire (suits_indexed want) at (ks t) ∷ int_checks ks (record { place = p; node = n })
+abbrev pub wire_node : Kinds → Want → Place → PureNode → List Check
+wire_node ks want at (PureNode.name t) = is_wire (suits want) at (ks t) ∷ []
+wire_node ks want at (PureNode.index t p n) = is_wire (suits_indexed want) at (ks t) ∷ int_checks ks (record { place = p; node = n })
 wire_node ks want at _ = check false (WrongKind at) ∷ []
 
-abbrev pub argument_checks : Kinds → Want → Expr → List Check
+abbrev pub argument_checks : Kinds → Want → PureExpr → List Check
 argument_checks ks AnInt e = int_checks ks e
 argument_checks ks ADouble e = number_checks ks e
 argument_checks ks want e = wire_node ks want e.place e.node
 
 -- an operand of a measurement
-abbrev pub operand_checks : Kinds → Want → Operand → List Check
-operand_checks ks want o = by_index o.index
+abbrev pub operand_checks : Kinds → Want → PureNamed → List Check
+operand_checks ks want o = by_index o.value
   where
-    by_index : Option Expr → List Check
+    by_index : Option PureExpr → List Check
     by_index None = is_wire (suits want) o.name.place (ks o.name.text) ∷ []
     by_index (Some e) = is_wire (suits_indexed want) o.name.place (ks o.name.text) ∷ int_checks ks e
 
 -- the arguments from left to right
-abbrev pub arguments_checks : Kinds → List Want → List Expr → List Check
+abbrev pub arguments_checks : Kinds → List Want → List PureExpr → List Check
 arguments_checks ks [] es = []
 arguments_checks ks (w ∷ ws) [] = []
 arguments_checks ks (w ∷ ws) (e ∷ es) = argument_checks ks w e ++ arguments_checks ks ws es

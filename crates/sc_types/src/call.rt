@@ -1,6 +1,7 @@
 //! Calls: the number of arguments, and then the arguments.
-ghost use Rattle.std.specs.Prelude.{◌≡◌, length};
+ghost use Rattle.std.specs.Prelude.{◌≡◌, length, map};
 ghost use Rattle.std.specs.Result.{result_err};
+ghost use Rattle.sc_syntax.specs.Alike.{pure_expr};
 ghost use Rattle.sc_types.specs.Checks.{first_fault};
 ghost use Rattle.sc_types.specs.Wires.{arguments_checks, gate_wants as wanted};
 ghost use Rattle.sc_types.specs.Statements.{applied as applied_checks};
@@ -32,7 +33,7 @@ pub(crate) fn gate_wants(gate: GateName, count: usize) -> &'static [Want]
 /// The fault of the arguments from left to right.
 fn arguments<N: Names>(names: &N, wants: &[Want], args: &[Expr]) -> Result<(), TypeFault>
     requires { length wants.now ≡ length args.now }
-    ensures { result_err result ≡ first_fault (arguments_checks (N.kinds names.now) wants.now args.now) }
+    ensures { result_err result ≡ first_fault (arguments_checks (N.kinds names.now) wants.now (map pure_expr args.now)) }
 {
     for i in 0..args.len() {
         argument(names, wants[i], &args[i])?;
@@ -41,13 +42,14 @@ fn arguments<N: Names>(names: &N, wants: &[Want], args: &[Expr]) -> Result<(), T
 }
 
 /// The fault of the number of arguments, or else of the arguments.
+#[tactic(auto, using(crate::proofs::Arguments::pure_length))]
 pub(crate) fn applied<N: Names>(
     names: &N,
     at: Place,
     wants: &[Want],
     args: &[Expr],
 ) -> Result<(), TypeFault>
-    ensures { result_err result ≡ first_fault (applied_checks (N.kinds names.now) at wants.now args.now) }
+    ensures { result_err result ≡ first_fault (applied_checks (N.kinds names.now) at wants.now (map pure_expr args.now)) }
 {
     if args.len() != wants.len() {
         return Err(TypeFault::WrongCount(at));

@@ -1,6 +1,7 @@
 //! Declarations of wires and numbers.
-ghost use Rattle.std.specs.Prelude.{◌≡◌, ◌≢◌, Ok, Err, OnOk, IfErr};
+ghost use Rattle.std.specs.Prelude.{◌≡◌, ◌≢◌, Ok, Err, OnOk, IfErr, option_map};
 ghost use Rattle.std.specs.Result.{result_err};
+ghost use Rattle.sc_syntax.specs.Alike.{pure_expr};
 ghost use Rattle.sc_types.specs.Checks.{first_fault};
 ghost use Rattle.sc_types.specs.Numbers.{int_checks};
 ghost use Rattle.sc_types.specs.Scopes.{kinds_in};
@@ -14,7 +15,7 @@ use sc_base::Class;
 use sc_syntax::{Decl, Expr, Init, NameKind, NumSort};
 
 fn size(scopes: &Scopes, size: &Option<Expr>) -> Result<(), TypeFault>
-    ensures { result_err result ≡ first_fault (optional (int_checks (kinds_in scopes.now)) size.now) }
+    ensures { result_err result ≡ first_fault (optional (int_checks (kinds_in scopes.now)) (option_map pure_expr size.now)) }
 {
     if let Some(size) = size {
         let _ = int(scopes, size)?;
@@ -23,7 +24,7 @@ fn size(scopes: &Scopes, size: &Option<Expr>) -> Result<(), TypeFault>
 }
 
 fn start(scopes: &Scopes, sort: NumSort, start: &Option<Expr>) -> Result<(), TypeFault>
-    ensures { result_err result ≡ first_fault (optional (start_checks (kinds_in scopes.now) sort) start.now) }
+    ensures { result_err result ≡ first_fault (optional (start_checks (kinds_in scopes.now) sort) (option_map pure_expr start.now)) }
 {
     if let Some(start) = start {
         match sort {
@@ -39,7 +40,7 @@ fn start(scopes: &Scopes, sort: NumSort, start: &Option<Expr>) -> Result<(), Typ
 }
 
 fn wire_kind(class: Class, decl: &Decl) -> NameKind
-    ensures { result ≡ kind_of_wire class decl.now.size }
+    ensures { result ≡ kind_of_wire class (option_map pure_expr decl.now.size) }
 {
     match &decl.size {
         None => NameKind::One(class),

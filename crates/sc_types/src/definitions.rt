@@ -9,9 +9,9 @@ use sc_base::Text;
 /// Something that knows what the modules and classical functions of a source take.
 pub(crate) trait Definitions {
     ghost use Rattle.std.specs.Prelude.{List};
-    ghost use Rattle.sc_syntax.specs.declared.Part.{Part};
+    ghost use Rattle.sc_syntax.specs.Alike.{PurePart};
 
-    ghost parts: { Self → List Part };
+    ghost parts: { Self → List PurePart };
 
     /// What the first definition of the name takes, or None where the source defines no such name.
     fn wants(&self, name: &Text) -> Option<&[Want]>

@@ -4,6 +4,7 @@ ghost use Rattle.std.specs.Option.{option_copied};
 ghost use Rattle.sc_types.specs.Positions.{first_at, is_position};
 ghost use Rattle.sc_types.specs.Sources.{name_of as name_of_part};
 ghost use Rattle.sc_types.specs.Statements.{param_want as wanted, part_wants as wanted_by};
+ghost use Rattle.sc_syntax.specs.Alike.{pure_sort, pure_param, pure_part};
 ghost use Rattle.sc_syntax.specs.FormedWords.{max_items};
 ghost use Rattle.sc_types.specs.FirstParts.{has_name, FindsFirst};
 ghost use Rattle.sc_types.specs.Tables.{with_new};
@@ -80,7 +81,7 @@ fn wants_at(wants: &List<List<Want>>, position: usize) -> Option<&[Want]>
 }
 
 impl<'a> Definitions for FirstParts<'a> {
-    ghost parts = { λ f. f };
+    ghost parts = { λ f. map pure_part f };
 
     fn wants(&self, name: &Text) -> Option<&[Want]> {
         match self.first.get(name) {
@@ -91,7 +92,7 @@ impl<'a> Definitions for FirstParts<'a> {
 }
 
 pub(crate) fn name_of(part: &Part) -> &Name
-    ensures { result.now ≡ name_of_part part.now }
+    ensures { result.now ≡ name_of_part (pure_part part.now) }
 {
     match part {
         Part::Module(module) => &module.name,
@@ -111,7 +112,7 @@ pub(crate) fn push<T: Drop>(list: &mut List<T>, value: T) -> Result<(), TypeFaul
 }
 
 fn param_want(sort: &Sort) -> Want
-    ensures { result ≡ wanted sort.now }
+    ensures { result ≡ wanted (pure_sort sort.now) }
 {
     match sort {
         Sort::One(class) => Want::OneWire(*class),
@@ -122,7 +123,7 @@ fn param_want(sort: &Sort) -> Want
 }
 
 fn params_wants(alloc: Global, params: &[Param]) -> Result<List<Want>, TypeFault>
-    ensures ok { IfOk result (λ w. w ≡ map (λ p. wanted p.sort) params.now) }
+    ensures ok { IfOk result (λ w. w ≡ map (λ p. wanted p.sort) (map pure_param params.now)) }
     ensures err { IfErr result (λ f. f ≡ TypeFault.Memory) }
 {
     let mut wants = List::new(alloc);
@@ -146,7 +147,7 @@ fn words_wants(alloc: Global, params: &[WordParam]) -> Result<List<Want>, TypeFa
 }
 
 fn part_wants(alloc: Global, part: &Part) -> Result<List<Want>, TypeFault>
-    ensures ok { IfOk result (λ w. w ≡ wanted_by part.now) }
+    ensures ok { IfOk result (λ w. w ≡ wanted_by (pure_part part.now)) }
     ensures err { IfErr result (λ f. f ≡ TypeFault.Memory) }
 {
     match part {
@@ -157,7 +158,7 @@ fn part_wants(alloc: Global, part: &Part) -> Result<List<Want>, TypeFault>
 
 /// What each part takes.
 fn all_wants(alloc: Global, parts: &[Part]) -> Result<List<List<Want>>, TypeFault>
-    ensures ok { IfOk result (λ w. w ≡ map wanted_by parts.now) }
+    ensures ok { IfOk result (λ w. w ≡ map (λ p. wanted_by (pure_part p)) parts.now) }
     ensures err { IfErr result (λ f. f ≡ TypeFault.Memory) }
 {
     let mut wants = List::new(alloc);

@@ -6,7 +6,7 @@ ghost use Rattle.sc_types.specs.Sorts.{sort_of, sort_of_name, fault_of_indexed, 
 use crate::fault::TypeFault;
 use crate::names::Names;
 use sc_base::{Class, Place};
-use sc_syntax::{BinOp, Expr, Link, NameKind, Node, NumSort, UnOp};
+use sc_syntax::{BinOp, Expr, NameKind, Node, NumSort, UnOp};
 
 fn sort_of_name(at: Place, kind: Option<NameKind>) -> Result<NumSort, TypeFault>
     ensures { result ≡ sort_of_name at kind }

@@ -1,6 +1,7 @@
 //! The parameters of a module.
-ghost use Rattle.std.specs.Prelude.{◌≡◌, ◌≢◌, [], ◌∷◌, None, Some, Ok, Err, OnOk, IfOk, IfErr};
+ghost use Rattle.std.specs.Prelude.{◌≡◌, ◌≢◌, [], None, Some, Ok, Err, OnOk, IfOk, IfErr, map};
 ghost use Rattle.std.specs.Result.{result_err};
+ghost use Rattle.sc_syntax.specs.Alike.{pure_param, pure_sort};
 ghost use Rattle.sc_types.specs.Checks.{first_fault};
 ghost use Rattle.sc_types.specs.Positions.{is_past};
 ghost use Rattle.sc_types.specs.Scopes.{StandsAtBody};
@@ -81,7 +82,7 @@ impl<'a> Names for LengthNames<'a> {
 }
 
 fn stated_length<N: Names>(names: &N, sort: &Sort) -> Result<(), TypeFault>
-    ensures { result_err result ≡ first_fault (length_checks (N.kinds names.now) sort.now) }
+    ensures { result_err result ≡ first_fault (length_checks (N.kinds names.now) (pure_sort sort.now)) }
 {
     if let Sort::Many(_, Some(length)) = sort {
         let _ = int(names, length)?;
@@ -95,7 +96,7 @@ fn length(
     position: usize,
     sort: &Sort,
 ) -> Result<(), TypeFault>
-    ensures { result_err result ≡ first_fault (length_checks (length_names last.now position scopes.now) sort.now) }
+    ensures { result_err result ≡ first_fault (length_checks (length_names last.now position scopes.now) (pure_sort sort.now)) }
 {
     let names = LengthNames {
         scopes,
@@ -106,7 +107,7 @@ fn length(
 }
 
 fn param_kind(sort: &Sort) -> NameKind
-    ensures { result ≡ kind_of_param sort.now }
+    ensures { result ≡ kind_of_param (pure_sort sort.now) }
 {
     match sort {
         Sort::One(class) => NameKind::One(*class),
@@ -148,9 +149,9 @@ fn declare_params(
 
 /// The scope of a module with its parameters.
 pub(crate) fn module_scope(alloc: Global, params: &[Param]) -> Result<Scopes, TypeFault>
-    ensures scopes { IfOk result (λ s. StandsAtBody s (walk_params [] params.now).declares) }
-    ensures none { OnOk result (first_fault (walk_params [] params.now).checks ≡ None) }
-    ensures err { IfErr result (λ f. f ≢ TypeFault.Memory → first_fault (walk_params [] params.now).checks ≡ Some f) }
+    ensures scopes { IfOk result (λ s. StandsAtBody s (walk_params [] (map pure_param params.now)).declares) }
+    ensures none { OnOk result (first_fault (walk_params [] (map pure_param params.now)).checks ≡ None) }
+    ensures err { IfErr result (λ f. f ≢ TypeFault.Memory → first_fault (walk_params [] (map pure_param params.now)).checks ≡ Some f) }
 {
     let last = last_ints(alloc, params)?;
     let mut scopes = Scopes::new(alloc);

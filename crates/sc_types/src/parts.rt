@@ -1,8 +1,10 @@
 //! The modules and classical functions of a source.
-ghost use Rattle.std.specs.Prelude.{◌≡◌, ◌≢◌, [], ◌∷◌, None, Some, OnOk, IfOk, IfErr, All, slice_get, take};
+ghost use Rattle.std.specs.Prelude.{◌≡◌, ◌≢◌, [], ◌∷◌, None, Some, OnOk, IfOk, IfErr, All, slice_get, take, map};
 ghost use Rattle.std.specs.Result.{result_err};
 ghost use Rattle.sc_syntax.specs.Formed.{IsFormedPart};
 ghost use Rattle.sc_syntax.specs.FormedWords.{IsFormedWordFn};
+ghost use Rattle.sc_syntax.specs.Alike.{pure_param, pure_stmt, pure_part};
+ghost use Rattle.sc_word.specs.Pure.{pure_word_fn};
 ghost use Rattle.sc_word.specs.Typed.{TypesFn};
 ghost use Rattle.sc_types.specs.Checks.{first_fault};
 ghost use Rattle.sc_types.specs.Sources.{walk_module, of_word as fault_of_word, words_checks, part_checks, parts_checks, is_new_part};
@@ -25,8 +27,8 @@ fn check_module<D: Definitions>(
     definitions: &D,
     checked: &Module,
 ) -> Result<(), TypeFault>
-    ensures none { OnOk result (first_fault (walk_module (D.parts definitions.now) checked.now).checks ≡ None) }
-    ensures err { IfErr result (λ f. f ≢ TypeFault.Memory → first_fault (walk_module (D.parts definitions.now) checked.now).checks ≡ Some f) }
+    ensures none { OnOk result (first_fault (walk_module (D.parts definitions.now) (map pure_param checked.now.params) (map pure_stmt checked.now.body)).checks ≡ None) }
+    ensures err { IfErr result (λ f. f ≢ TypeFault.Memory → first_fault (walk_module (D.parts definitions.now) (map pure_param checked.now.params) (map pure_stmt checked.now.body)).checks ≡ Some f) }
 {
     let mut scopes = module_scope(alloc, checked.params.as_slice())?;
     statements(definitions, &mut scopes, checked.body.as_slice())?;
@@ -47,8 +49,8 @@ fn of_word(fault: WordFault) -> TypeFault
 fn type_words(alloc: Global, function: &WordFn) -> Result<TypedFn, TypeFault>
     requires { IsFormedWordFn function.now }
     ensures typed { IfOk result (TypesFn function.now) }
-    ensures none { OnOk result (first_fault (words_checks function.now) ≡ None) }
-    ensures err { IfErr result (λ f. f ≢ TypeFault.Memory → first_fault (words_checks function.now) ≡ Some f) }
+    ensures none { OnOk result (first_fault (words_checks (pure_word_fn function.now)) ≡ None) }
+    ensures err { IfErr result (λ f. f ≢ TypeFault.Memory → first_fault (words_checks (pure_word_fn function.now)) ≡ Some f) }
 {
     match typed(alloc, function) {
         Ok(word) => Ok(word),
@@ -60,8 +62,8 @@ fn type_words(alloc: Global, function: &WordFn) -> Result<TypedFn, TypeFault>
 fn check_part(alloc: Global, parts: &FirstParts, part: &Part) -> Result<Option<TypedFn>, TypeFault>
     requires { IsFormedPart part.now }
     ensures typed { IfOk result (IsTyped part.now) }
-    ensures none { OnOk result (first_fault (part_checks parts.now part.now) ≡ None) }
-    ensures err { IfErr result (λ f. f ≢ TypeFault.Memory → first_fault (part_checks parts.now part.now) ≡ Some f) }
+    ensures none { OnOk result (first_fault (part_checks (map pure_part parts.now) (pure_part part.now)) ≡ None) }
+    ensures err { IfErr result (λ f. f ≢ TypeFault.Memory → first_fault (part_checks (map pure_part parts.now) (pure_part part.now)) ≡ Some f) }
 {
     match part {
         Part::Module(checked) => {
@@ -78,7 +80,7 @@ fn check_part(alloc: Global, parts: &FirstParts, part: &Part) -> Result<Option<T
 /// The name of the part at a position is that of no part before it.
 fn new_part(parts: &FirstParts, position: usize, part: &Part) -> Result<(), TypeFault>
     requires { slice_get parts.now position ≡ Some part.now }
-    ensures { result_err result ≡ first_fault (is_new_part (take position parts.now) part.now ∷ []) }
+    ensures { result_err result ≡ first_fault (is_new_part (map pure_part (take position parts.now)) (pure_part part.now) ∷ []) }
 {
     let name = name_of(part);
     if parts.is_first(&name.text, position) {
@@ -97,8 +99,8 @@ pub(crate) fn check_parts(
     requires formed { All IsFormedPart parts.now }
     requires first { FindsFirst parts.now positions.now }
     ensures typed { IfOk result (AreTyped parts.now) }
-    ensures none { OnOk result (first_fault (parts_checks parts.now [] parts.now) ≡ None) }
-    ensures err { IfErr result (λ f. f ≢ TypeFault.Memory → first_fault (parts_checks parts.now [] parts.now) ≡ Some f) }
+    ensures none { OnOk result (first_fault (parts_checks (map pure_part parts.now) [] (map pure_part parts.now)) ≡ None) }
+    ensures err { IfErr result (λ f. f ≢ TypeFault.Memory → first_fault (parts_checks (map pure_part parts.now) [] (map pure_part parts.now)) ≡ Some f) }
 {
     let first = FirstParts::new(alloc, parts, positions)?;
     let mut words = List::new(alloc);

@@ -1,6 +1,7 @@
 //! Numbers that are set.
-ghost use Rattle.std.specs.Prelude.{◌≡◌, [], ◌∷◌, ◌++◌, Some, None, IfOk};
+ghost use Rattle.std.specs.Prelude.{◌≡◌, [], ◌∷◌, ◌++◌, Some, None, IfOk, option_map};
 ghost use Rattle.std.specs.Result.{result_err};
+ghost use Rattle.sc_syntax.specs.Alike.{pure_expr};
 ghost use Rattle.sc_syntax.specs.NameKind.{kind_of_expr};
 ghost use Rattle.sc_types.specs.Checks.{first_fault};
 ghost use Rattle.sc_types.specs.Declarations.{is_pi as is_pi_name};
@@ -69,7 +70,7 @@ fn fits(
 /// The expression, then that the kinds fit.
 #[tactic(auto, using(crate::proofs::Telling::fault_append))]
 fn put(scopes: &Scopes, set: &Set, sort: NumSort, value: &Expr) -> Result<(), TypeFault>
-    ensures { result_err result ≡ first_fault (number_checks (kinds_in scopes.now) value.now ++ fit_checks set.now.name.place set.now.place (Some sort) (set_by set.now.op) (kind_of_expr (kinds_in scopes.now) value.now)) }
+    ensures { result_err result ≡ first_fault (number_checks (kinds_in scopes.now) (pure_expr value.now) ++ fit_checks set.now.name.place set.now.place (Some sort) (set_by set.now.op) (kind_of_expr (kinds_in scopes.now) value.now)) }
 {
     let value = number(scopes, value)?;
     fits(set.name.place, set.place, sort, operator(set.op), value)?;
@@ -78,7 +79,7 @@ fn put(scopes: &Scopes, set: &Set, sort: NumSort, value: &Expr) -> Result<(), Ty
 
 /// The name and that it may be set, and then the value.
 pub(crate) fn set(scopes: &Scopes, set: &Set) -> Result<(), TypeFault>
-    ensures { result_err result ≡ first_fault (set_checks (kind_in scopes.now) set.now) }
+    ensures { result_err result ≡ first_fault (set_checks (kind_in scopes.now) set.now.name set.now.op set.now.place (option_map pure_expr set.now.value)) }
 {
     let sort = may_set(&set.name, scopes.declared_kind(&set.name.text))?;
     if let Some(value) = &set.value {

@@ -6,7 +6,7 @@ ghost use Rattle.sc_syntax.specs.Formed.{IsFormedSource};
 ghost use Rattle.sc_syntax.specs.FormedWords.{max_items};
 ghost use Rattle.sc_types.specs.Checks.{check as one_check, first_fault};
 ghost use Rattle.sc_types.specs.Positions.{first_at};
-ghost use Rattle.sc_types.specs.Sources.{is_main as is_main_part, fault_of};
+ghost use Rattle.sc_types.specs.Sources.{is_main_part, fault_of};
 ghost use Rattle.sc_types.specs.Typing.{HasOneFault};
 
 use crate::checked::Checked;
@@ -16,6 +16,7 @@ use crate::parts::check_parts;
 use sc_syntax::{Part, Source};
 use std::alloc::Global;
 
+#[tactic(auto, using(crate::proofs::ParameterLemmas::pure_count))]
 fn is_main(part: &Part) -> bool
     ensures { result ≡ is_main_part part.now }
 {

@@ -1,6 +1,7 @@
 //! The walk over statements.
-ghost use Rattle.std.specs.Prelude.{◌≡◌, ◌≢◌, List, None, Some, Ok, Err, OnOk, IfErr};
+ghost use Rattle.std.specs.Prelude.{◌≡◌, ◌≢◌, List, None, Some, Ok, Err, OnOk, IfErr, map, option_map};
 ghost use Rattle.std.specs.Result.{result_err};
+ghost use Rattle.sc_syntax.specs.Alike.{pure_expr, pure_operand, pure_stmt};
 ghost use Rattle.sc_types.specs.Checks.{first_fault};
 ghost use Rattle.sc_types.specs.Scopes.{kinds_in, StandsAtBody};
 ghost use Rattle.sc_types.specs.Numbers.{number_checks};
@@ -23,7 +24,7 @@ use sc_syntax::{Act, Call, Callee, Expr, Measure, Stmt};
 /// The left side with its index, and then the measured operand.
 #[tactic(auto, using(crate::proofs::Telling::fault_append))]
 fn measure(scopes: &Scopes, measure: &Measure) -> Result<(), TypeFault>
-    ensures { result_err result ≡ first_fault (measure_checks (kinds_in scopes.now) measure.now) }
+    ensures { result_err result ≡ first_fault (measure_checks (kinds_in scopes.now) (pure_operand measure.now.into) (pure_operand measure.now.from)) }
 {
     operand(scopes, Want::OneWire(Class::C), &measure.into)?;
     operand(scopes, Want::OneWire(Class::Q), &measure.from)?;
@@ -31,8 +32,9 @@ fn measure(scopes: &Scopes, measure: &Measure) -> Result<(), TypeFault>
 }
 
 /// The name, then the number of arguments, then the arguments from left to right.
+#[tactic(auto, using(crate::proofs::Arguments::pure_length))]
 fn call<D: Definitions>(definitions: &D, scopes: &Scopes, call: &Call) -> Result<(), TypeFault>
-    ensures { result_err result ≡ first_fault (call_checks (D.parts definitions.now) (kinds_in scopes.now) call.now) }
+    ensures { result_err result ≡ first_fault (call_checks (D.parts definitions.now) (kinds_in scopes.now) call.now.callee call.now.place (map pure_expr call.now.args)) }
 {
     let args = call.args.as_slice();
     match &call.callee {
@@ -51,7 +53,7 @@ fn call<D: Definitions>(definitions: &D, scopes: &Scopes, call: &Call) -> Result
 }
 
 fn test(scopes: &Scopes, test: &Option<Expr>) -> Result<(), TypeFault>
-    ensures { result_err result ≡ first_fault (optional (number_checks (kinds_in scopes.now)) test.now) }
+    ensures { result_err result ≡ first_fault (optional (number_checks (kinds_in scopes.now)) (option_map pure_expr test.now)) }
 {
     if let Some(test) = test {
         let _ = number(scopes, test)?;
@@ -154,8 +156,8 @@ pub(crate) fn statements<D: Definitions>(
     scopes: &mut Scopes,
     stmts: &[Stmt],
 ) -> Result<(), TypeFault>
-    ensures none { OnOk result ((before : List Declaration) → StandsAtBody scopes.old before → first_fault (walk_stmts (D.parts definitions.now) before 0 stmts.now).checks ≡ None) }
-    ensures err { IfErr result (λ f. f ≢ TypeFault.Memory → (before : List Declaration) → StandsAtBody scopes.old before → first_fault (walk_stmts (D.parts definitions.now) before 0 stmts.now).checks ≡ Some f) }
+    ensures none { OnOk result ((before : List Declaration) → StandsAtBody scopes.old before → first_fault (walk_stmts (D.parts definitions.now) before 0 (map pure_stmt stmts.now)).checks ≡ None) }
+    ensures err { IfErr result (λ f. f ≢ TypeFault.Memory → (before : List Declaration) → StandsAtBody scopes.old before → first_fault (walk_stmts (D.parts definitions.now) before 0 (map pure_stmt stmts.now)).checks ≡ Some f) }
 {
     walk(definitions, scopes, stmts)?;
     Ok(())

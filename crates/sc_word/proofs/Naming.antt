@@ -1,45 +1,33 @@
 -- The table of words looks names up as the list of words does.
-use Rattle.std.proofs.Common.{◌≡◌, ℕ, zero, suc, ◌+◌, Bool, not, cond, List, [], ◌∷◌, ◌++◌, length, map, nat_eq, nat_lt, Some, None, refl, sym, ap, ◌∙◌}
-use Rattle.std.specs.Prelude.{position, slice_get}
-use Rattle.std.specs.List.{prefix_len, position_or_len}
-use Rattle.std.specs.Map.{keys_of}
-use Rattle.std.specs.declared.vec.Vec.{Vec}
-use Rattle.std.specs.declared.alloc.Global.{Global}
-use Rattle.std.specs.Cmp.Lexicographic.{pointwise}
-use Rattle.indexmap.specs.IndexMap.{insert_entry}
-use Rattle.indexmap.proofs.MapLemmas.{Missing-position, insert_entry-absent}
-use Rattle.sc_word.specs.Words.{named, named_entry, number_of, has_name, width_at}
+use Rattle.std.proofs.Common.{◌≡◌, ℕ, zero, suc, ◌+◌, ◌<◌, Bool, true, false, not, cond, List, [], ◌∷◌, length, map, get_or, nat_lt, Option, Some, None, refl, sym, ap, ◌∙◌, arith}
+use Rattle.std.specs.Prelude.{option_map}
+use Rattle.std.specs.List.{position_or_len}
+use Rattle.std.proofs.lemmas.Bool.{ltb-true, lt-ltb, ltb_from_iff}
+use Rattle.sc_base.specs.Texts.{same}
+use Rattle.sc_base.specs.NameMaps.{place_under}
+use Rattle.sc_word.specs.Words.{named_entry, number_of, has_name, width_at}
 
-prefix_len-map : {X Y : Type 0} (f : X → Y) (p : Y → Bool) (xs : List X) → prefix_len p (map f xs) ≡ prefix_len (λ x. p (f x)) xs
-prefix_len-map f p [] = refl
-prefix_len-map f p (x ∷ xs) = ap (λ n. cond (p (f x)) (1 + n) 0) (prefix_len-map f p xs)
+later : (b : Bool) (k : ℕ) → option_map suc (cond b (Some k) None) ≡ cond b (Some (suc k)) None
+later true k = refl
+later false k = refl
 
-length_map : {X Y : Type 0} (f : X → Y) (xs : List X) → length (map f xs) ≡ length xs
-length_map f [] = refl
-length_map f (x ∷ xs) = ap suc (length_map f xs)
+one_more : (k : ℕ) → suc k ≡ 1 + k
+one_more k = omega arith
 
-position-map : {X Y : Type 0} (f : X → Y) (p : Y → Bool) (xs : List X) → position p (map f xs) ≡ position (λ x. p (f x)) xs
-position-map f p xs =
-    ap (λ n. cond (nat_lt n (length (map f xs))) (Some n) None) (prefix_len-map f (λ y. not (p y)) xs)
-    ∙ ap (λ n. cond (nat_lt (position_or_len (λ x. p (f x)) xs) n) (Some (position_or_len (λ x. p (f x)) xs)) None) (length_map f xs)
+less_more : (k n : ℕ) → nat_lt k n ≡ nat_lt (1 + k) (suc n)
+less_more k n = ltb_from_iff (λ e. omega (arith, ltb-true k n e), λ h. lt-ltb k n (omega (arith, h)))
 
-pub number_of_entries : (name : List ℕ) (es : List (Vec ℕ Global × ℕ))
-    → position (λ (k : Vec ℕ Global). pointwise nat_eq name k.items) (keys_of es) ≡ number_of (map named_entry es) name
-number_of_entries name es =
-    position-map (λ (e : Vec ℕ Global × ℕ). e.0) (λ (k : Vec ℕ Global). pointwise nat_eq name k.items) es
-    ∙ sym (position-map named_entry (has_name name) es)
+place_by : (b : Bool) (k n : ℕ) (o : Option ℕ) → o ≡ cond (nat_lt k n) (Some k) None
+    → cond b (Some 0) (option_map suc o) ≡ cond (nat_lt (cond (not b) (1 + k) 0) (suc n)) (Some (cond (not b) (1 + k) 0)) None
+place_by true k n o e = ap (λ (b : Bool). cond {A = Option ℕ} b (Some 0) None) (sym (lt-ltb 0 (suc n) (omega arith)))
+place_by false k n o e = ap (option_map suc) e ∙ later (nat_lt k n) k ∙ (λ i. cond (less_more k n i) (Some (one_more k i)) None)
 
-pub width_at_entries : (es : List (Vec ℕ Global × ℕ)) (i : ℕ) (k : Vec ℕ Global) (w : ℕ) → slice_get es i ≡ Some (k, w) → w ≡ width_at (map named_entry es) i
-width_at_entries [] i k w h = cc
-width_at_entries (e ∷ es) zero k w h = cc
-width_at_entries (e ∷ es) (suc i) k w h = width_at_entries es i k w h
+pub place_of_name : (name : List ℕ) (es : List (List ℕ × ℕ)) → place_under es name ≡ number_of (map named_entry es) name
+place_of_name name [] = refl
+place_of_name name (e ∷ es) =
+    place_by (same name e.0) (position_or_len (has_name name) (map named_entry es)) (length (map named_entry es)) (place_under es name) (place_of_name name es)
 
-map-push : (es : List (Vec ℕ Global × ℕ)) (e : Vec ℕ Global × ℕ) → map named_entry (es ++ e ∷ []) ≡ map named_entry es ++ named_entry e ∷ []
-map-push [] e = refl
-map-push (x ∷ es) e = ap (λ l. named_entry x ∷ l) (map-push es e)
-
-pub new_entry : (es : List (Vec ℕ Global × ℕ)) (k : Vec ℕ Global) (w : ℕ) → number_of (map named_entry es) k.items ≡ None
-    → map named_entry (insert_entry (λ (a b : Vec ℕ Global). pointwise nat_eq a.items b.items) es k w) ≡ map named_entry es ++ named k.items w ∷ []
-new_entry es k w h =
-    let absent = (Missing-position (λ (b : Vec ℕ Global). pointwise nat_eq k.items b.items) es (number_of_entries k.items es ∙ h)).absent in
-    ap (map named_entry) (insert_entry-absent (λ (a b : Vec ℕ Global). pointwise nat_eq a.items b.items) k w es absent) ∙ map-push es (k, w)
+pub width_at_entries : (es : List (List ℕ × ℕ)) (i : ℕ) (d : List ℕ × ℕ) → i < length es → (get_or es i d).1 ≡ width_at (map named_entry es) i
+width_at_entries [] i d h = absurd (omega arith)
+width_at_entries (e ∷ es) zero d h = refl
+width_at_entries (e ∷ es) (suc i) d h = width_at_entries es i d (omega arith)

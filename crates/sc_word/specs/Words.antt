@@ -1,7 +1,5 @@
 -- The words that are known at a place of a classical function.
 use Rattle.std.specs.Prelude.{Bool, map, ℕ, zero, suc, ◌≤◌, List, [], ◌∷◌, Option, Some, None, position}
-use Rattle.std.specs.declared.vec.Vec.{Vec}
-use Rattle.std.specs.declared.alloc.Global.{Global}
 use Rattle.sc_base.specs.Texts.{same}
 
 -- a parameter or a bound name, and its width
@@ -47,8 +45,8 @@ abbrev pub named : List ℕ → ℕ → Named
 named name width = record { name = name; width = width }
 
 -- an entry of the table of words
-abbrev pub named_entry : Vec ℕ Global × ℕ → Named
-named_entry entry = named entry.0.items entry.1
+abbrev pub named_entry : List ℕ × ℕ → Named
+named_entry entry = named entry.0 entry.1
 
 abbrev pub AreWidths : List ℕ → Type 0
 AreWidths [] = Unit {0}

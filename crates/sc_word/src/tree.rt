@@ -1,5 +1,7 @@
 //! Typed word expressions.
-use sc_base::{List, Place};
+ghost use Rattle.std.specs.Prelude.{◌≡◌};
+
+use sc_base::{List, Memory, Place};
 use sc_syntax::{ShiftLink, WordOp};
 
 /// Why a classical function is refused, and where.
@@ -9,6 +11,16 @@ pub enum WordFault {
     Redefined(Place),
     BadWidth(Place),
     Memory,
+}
+
+impl From<Memory> for WordFault {
+    ghost use Rattle.sc_word.specs.declared.tree.WordFault.TheVariants.{Memory as OutOfMemory};
+
+    ghost from_gives = { λ _ e. e ≡ OutOfMemory };
+
+    fn from(_: Memory) -> Self {
+        WordFault::Memory
+    }
 }
 
 /// A word expression and its width, from 1 to 64.

@@ -1,12 +1,11 @@
 //! The words that are known at a place of a classical function.
-ghost use Rattle.std.specs.Prelude.{◌≡◌, ◌<◌, ◌≤◌, ◌^◌, [], ◌∷◌, ◌++◌, length, None, Some, OnOk, IfOk, IfErr, IfSome, option_map, is_some};
+ghost use Rattle.std.specs.Prelude.{◌≡◌, ◌<◌, [], ◌∷◌, ◌++◌, length, None, OnOk, IfErr, IfSome, option_map};
 ghost use Rattle.std.specs.Result.{result_err};
 ghost use Rattle.sc_word.specs.Words.{number_of, width_at, named};
 ghost use Rattle.sc_word.specs.Checks.{first_fault, is_new};
 
 use crate::tree::WordFault;
-use indexmap::IndexMap;
-use sc_base::Text;
+use sc_base::{NameMap, Text};
 use sc_syntax::Name;
 use std::alloc::Global;
 use std::marker::Model;
@@ -14,16 +13,16 @@ use std::marker::Model;
 /// Names and widths in the order in which they were declared. The number of a word is its place.
 #[derive(Drop)]
 pub(crate) struct Words {
-    widths: IndexMap<Vec<u8>, u32>,
+    widths: NameMap<u32>,
 }
 
 impl Model for Words {
-    ghost use Rattle.std.specs.Prelude.{List, map, length, ◌≤◌};
+    ghost use Rattle.std.specs.Prelude.{List, map};
     ghost use Rattle.sc_word.specs.Words.{Named, named_entry};
 
     ghost Value = { List Named };
 
-    ghost view = { λ w. map named_entry w.widths.entries };
+    ghost view = { λ w. map named_entry w.widths };
 }
 
 /// A word's number and width.
@@ -38,7 +37,7 @@ impl Words {
         ensures { result ≡ [] }
     {
         Words {
-            widths: IndexMap::new(alloc),
+            widths: NameMap::new(alloc),
         }
     }
 
@@ -47,11 +46,9 @@ impl Words {
         ensures width { IfSome result (λ k. k.width ≡ width_at self.now k.number) }
         ensures within { IfSome result (λ k. k.number < length self.now) }
     {
-        let (number, _, width) = self.widths.get_full(name.as_bytes())?;
-        Some(Known {
-            number,
-            width: *width,
-        })
+        let number = self.widths.place(name)?;
+        let width = self.widths.entries()[number].1;
+        Some(Known { number, width })
     }
 
     pub fn is_new(&self, name: &Name) -> Result<(), WordFault>
@@ -69,12 +66,7 @@ impl Words {
         ensures ok { OnOk result (self.new ≡ self.old ++ named name.now width ∷ []) }
         ensures err { IfErr result (λ f. f ≡ WordFault.Memory) }
     {
-        let Ok(name) = name.as_bytes().to_vec(alloc) else {
-            return Err(WordFault::Memory);
-        };
-        match self.widths.insert(name, width) {
-            Ok(_) => Ok(()),
-            Err(_) => Err(WordFault::Memory),
-        }
+        self.widths.push(alloc, name, width)?;
+        Ok(())
     }
 }

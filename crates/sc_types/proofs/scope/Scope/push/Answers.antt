@@ -1,6 +1,7 @@
 use Rattle.std.proofs.Common.{◌∷◌, [], ◌++◌, List, map, ap, ◌∙◌}
+use Rattle.std.proofs.lemmas.List.{map-append}
 use Rattle.sc_types.specs.Scopes.{Known, known, known_entry, kind_here}
-use Rattle.sc_types.proofs.ScopeLemmas.{kind_entries, map-push}
+use Rattle.sc_types.proofs.ScopeLemmas.{kind_entries}
 use Rattle.sc_types.proofs.TableLemmas.{no_place}
 use Rattle.sc_types.proofs.scope.Scope.push.Goals as goal
 
@@ -12,5 +13,5 @@ push-requires c =
 pub returns-clause-ok : goal.returns-clause-ok
 returns-clause-ok c =
     ap (map known_entry) c.in_ok-push.ensures.ok
-    ∙ map-push c.self.inside.kinds (c.args.name.now, c.args.kind)
+    ∙ map-append known_entry c.self.inside.kinds ((c.args.name.now, c.args.kind) ∷ [])
     ∙ ap (λ (s : List Known). s ++ known c.args.name.now c.args.kind ∷ []) c.self.view_is
