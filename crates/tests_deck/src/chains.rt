@@ -35,6 +35,7 @@ struct Expansion {
 type Weights = [[u128; 4]; 4];
 
 /// Numbers in no order, from a seed.
+#[derive(Drop)]
 struct Dice {
     state: u64,
 }
