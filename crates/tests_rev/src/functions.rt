@@ -9,7 +9,8 @@ use std::alloc::Global;
 use std::process::Abort;
 use std::test::Fail;
 
-fn checked(rt: &impl Abort, alloc: Global, function: &str) -> Result<Checked, Fail> {
+/// The source of a function.
+pub fn checked(rt: &impl Abort, alloc: Global, function: &str) -> Result<Checked, Fail> {
     let source = format!(in alloc; "{function} int main() {{ }}")?;
     let bytes = source.as_bytes();
     assert!(rt; bytes.len() <= 16_777_216);

@@ -1,4 +1,5 @@
-//! All functions of one and two operators over words of one to three bits, run on every assignment.
+//! All functions of one operator over words of one to three bits, and of two operators over words of one and two bits, run on
+//! every assignment. `bench/reversible.py` runs those of two operators over words of three bits.
 use crate::functions::{body_of, check_run};
 use std::alloc::{AllocError, Global};
 use std::process::Abort;
@@ -46,7 +47,7 @@ const OPERATORS: [Operator; 17] = [
 
 /// The two words on which an operator works: the left one and one named b, or twice the left one.
 #[derive(Clone, Copy, Debug, PartialEq, Eq)]
-enum Operands {
+pub enum Operands {
     Two,
     One,
 }
@@ -193,41 +194,69 @@ fn check_function(rt: &impl Abort, alloc: Global, function: Function) -> Result<
     Ok(())
 }
 
-fn check_width(rt: &impl Abort, alloc: Global, width: u32, operands: Operands) -> Result<(), Fail> {
+/// All functions of one operator.
+fn check_single(rt: &impl Abort, alloc: Global, width: u32, operands: Operands) -> Result<(), Fail> {
     for first in OPERATORS {
-        let alone = Function {
+        let function = Function {
             width,
             first,
             second: None,
             operands,
         };
-        check_function(rt, alloc, alone)?;
-        for second in OPERATORS {
-            check_function(
-                rt,
-                alloc,
-                Function {
-                    second: Some(second),
-                    ..alone
-                },
-            )?;
-        }
+        check_function(rt, alloc, function)?;
+    }
+    Ok(())
+}
+
+/// All functions of two operators, of which this is the second.
+fn check_second(
+    rt: &impl Abort,
+    alloc: Global,
+    width: u32,
+    operands: Operands,
+    second: Operator,
+) -> Result<(), Fail> {
+    for first in OPERATORS {
+        let function = Function {
+            width,
+            first,
+            second: Some(second),
+            operands,
+        };
+        check_function(rt, alloc, function)?;
+    }
+    Ok(())
+}
+
+/// All functions of two operators.
+pub fn check_pairs(rt: &impl Abort, alloc: Global, width: u32, operands: Operands) -> Result<(), Fail> {
+    for second in OPERATORS {
+        check_second(rt, alloc, width, operands, second)?;
     }
     Ok(())
 }
 
 #[test]
-fn operators_on_two_words(rt: HostRuntime) -> Result<(), Fail> {
+fn one_operator(rt: HostRuntime) -> Result<(), Fail> {
     for width in 1..4 {
-        check_width(&rt, rt.alloc(), width, Operands::Two)?;
+        check_single(&rt, rt.alloc(), width, Operands::Two)?;
+        check_single(&rt, rt.alloc(), width, Operands::One)?;
     }
     Ok(())
 }
 
 #[test]
-fn operators_on_one_word_twice(rt: HostRuntime) -> Result<(), Fail> {
-    for width in 1..4 {
-        check_width(&rt, rt.alloc(), width, Operands::One)?;
+fn two_operators_on_two_words(rt: HostRuntime) -> Result<(), Fail> {
+    for width in 1..3 {
+        check_pairs(&rt, rt.alloc(), width, Operands::Two)?;
+    }
+    Ok(())
+}
+
+#[test]
+fn two_operators_on_one_word_twice(rt: HostRuntime) -> Result<(), Fail> {
+    for width in 1..3 {
+        check_pairs(&rt, rt.alloc(), width, Operands::One)?;
     }
     Ok(())
 }
