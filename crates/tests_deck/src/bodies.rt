@@ -162,3 +162,67 @@ pub fn many_of_x(rt: &impl Abort, alloc: Global, n: u32) -> Result<Vec<Body>, Fa
     bodies.push(main)?;
     Ok(bodies)
 }
+
+fn x_on(number: u32) -> Gate {
+    Gate::one(Kind::X, Wire::qubit(number))
+}
+
+fn cnot_on(control: u32, target: u32) -> Gate {
+    Gate::two(Kind::Cnot, Wire::qubit(control), Wire::qubit(target))
+}
+
+/// The value of a comparison of two qubits with 3, into scratch.
+fn compare_with_three() -> [Gate; 10] {
+    [
+        x_on(3),
+        x_on(4),
+        cnot_on(0, 5),
+        cnot_on(3, 5),
+        x_on(5),
+        cnot_on(1, 6),
+        cnot_on(4, 6),
+        x_on(6),
+        cnot_on(5, 7),
+        Gate::three(Kind::Toffoli, Wire::qubit(7), Wire::qubit(6), Wire::qubit(8)),
+    ]
+}
+
+/// The oracle of a search: computed, copied to the output, and uncomputed.
+fn oracle(rt: &impl Abort, alloc: Global) -> Result<Body, Fail> {
+    let mut body = Body::new(alloc, 3, 0);
+    push_fresh(rt, &mut body, Class::Q, 6)?;
+    let mut gates = compare_with_three();
+    push_all(rt, &mut body, &gates)?;
+    push(rt, &mut body, Gate::two(Kind::Cnot, Wire::qubit(8), Wire::qubit(2)))?;
+    gates.reverse();
+    push_all(rt, &mut body, &gates)?;
+    Ok(body)
+}
+
+/// The diffusion of a search over two qubits.
+fn diffusion(rt: &impl Abort, alloc: Global) -> Result<Body, Fail> {
+    let (a, b) = (Wire::qubit(0), Wire::qubit(1));
+    let (ha, hb) = (Gate::one(Kind::H, a), Gate::one(Kind::H, b));
+    let (xa, xb) = (Gate::one(Kind::X, a), Gate::one(Kind::X, b));
+    let mut body = Body::new(alloc, 2, 0);
+    push_all(rt, &mut body, &[ha, xa, hb, xb])?;
+    push_all(rt, &mut body, &[hb, Gate::two(Kind::Cnot, a, b), hb])?;
+    push_all(rt, &mut body, &[xa, ha, xb, hb])?;
+    Ok(body)
+}
+
+/// A search for 3 over two qubits: the oracle, the diffusion, and a main that calls both and measures.
+pub fn search(rt: &impl Abort, alloc: Global) -> Result<[Body; 3], Fail> {
+    let (a, b, flag) = (Wire::qubit(0), Wire::qubit(1), Wire::qubit(2));
+    let mut main = Body::new(alloc, 0, 0);
+    push_fresh(rt, &mut main, Class::Q, 2)?;
+    push_fresh(rt, &mut main, Class::Q, 1)?;
+    push_fresh(rt, &mut main, Class::C, 2)?;
+    push_all(rt, &mut main, &[Gate::one(Kind::X, flag), Gate::one(Kind::H, flag)])?;
+    push_all(rt, &mut main, &[Gate::one(Kind::H, a), Gate::one(Kind::H, b)])?;
+    push_calls(rt, &mut main, 0, &[a, b, flag], 1)?;
+    push_calls(rt, &mut main, 1, &[a, b], 1)?;
+    push(rt, &mut main, Gate::two(Kind::MeasZ, a, Wire::cbit(0)))?;
+    push(rt, &mut main, Gate::two(Kind::MeasZ, b, Wire::cbit(1)))?;
+    Ok([oracle(rt, alloc)?, diffusion(rt, alloc)?, main])
+}

@@ -23,3 +23,5 @@ mod path;
 mod read;
 #[cfg(test)]
 mod sched;
+#[cfg(test)]
+mod tallies;

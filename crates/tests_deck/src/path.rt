@@ -1,5 +1,5 @@
 //! Path tables of bodies that are built by hand.
-use crate::bodies::{body_of_calls, body_of_g, body_of_one, doublings, main_of_calls, main_of_gates, many_of_x, push, push_all, qubits};
+use crate::bodies::{body_of_calls, body_of_g, body_of_one, doublings, main_of_calls, main_of_gates, many_of_x, push, push_all, push_calls, push_fresh, qubits, search};
 use crate::known::{add, paths_of};
 use sc_base::{Class, GateName};
 use sc_deck::Body;
@@ -186,6 +186,13 @@ fn bodies_without_gates(rt: HostRuntime) -> Result<(), Fail> {
     Ok(())
 }
 
+#[test]
+fn a_search_over_two_qubits(rt: HostRuntime) -> Result<(), Fail> {
+    let paths = paths_of(&rt, rt.alloc(), Times::ones(), &search(&rt, rt.alloc())?)?;
+    assert_eq!(rt; critical(&paths), 19);
+    Ok(())
+}
+
 /// Two calls on three qubits in a row: the second one shares a qubit with the first.
 #[test]
 fn calls_that_share_one_qubit(rt: HostRuntime) -> Result<(), Fail> {
@@ -194,9 +201,9 @@ fn calls_that_share_one_qubit(rt: HostRuntime) -> Result<(), Fail> {
     let (a, b) = (Wire::qubit(0), Wire::qubit(1));
     push_all(&rt, &mut pair, &[Gate::one(Kind::T, a), Gate::two(Kind::Cnot, a, b)])?;
     let mut main = Body::new(alloc, 0, 0);
-    crate::bodies::push_fresh(&rt, &mut main, Class::Q, 3)?;
-    crate::bodies::push_calls(&rt, &mut main, 0, &[b, Wire::qubit(2)], 1)?;
-    crate::bodies::push_calls(&rt, &mut main, 0, &[a, b], 1)?;
+    push_fresh(&rt, &mut main, Class::Q, 3)?;
+    push_calls(&rt, &mut main, 0, &[b, Wire::qubit(2)], 1)?;
+    push_calls(&rt, &mut main, 0, &[a, b], 1)?;
     let paths = paths_of(&rt, alloc, Times::ones(), &[pair, main])?;
     assert_eq!(rt; critical(&paths), 3);
     Ok(())
