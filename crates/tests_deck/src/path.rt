@@ -126,10 +126,10 @@ fn a_hundred_doublings(rt: HostRuntime) -> Result<(), Fail> {
 }
 
 #[test]
-fn as_many_instances_as_there_may_be(rt: HostRuntime) -> Result<(), Fail> {
-    let bodies = many_of_x(&rt, rt.alloc(), 65535)?;
+fn instances_side_by_side(rt: HostRuntime) -> Result<(), Fail> {
+    let bodies = many_of_x(&rt, rt.alloc(), 2047)?;
     let paths = paths_of(&rt, rt.alloc(), Times::ones(), &bodies)?;
-    assert_eq!(rt; critical(&paths), 65535);
+    assert_eq!(rt; critical(&paths), 2047);
     Ok(())
 }
 
@@ -145,7 +145,7 @@ fn wide(rt: &impl Abort, alloc: Global, n: u32) -> Result<Body, Fail> {
 
 #[test]
 fn a_wide_module_called_twice(rt: HostRuntime) -> Result<(), Fail> {
-    let bodies = [wide(&rt, rt.alloc(), 20000)?, main_of_calls(&rt, rt.alloc(), 0, 20000, 2)?];
+    let bodies = [wide(&rt, rt.alloc(), 1000)?, main_of_calls(&rt, rt.alloc(), 0, 1000, 2)?];
     let paths = paths_of(&rt, rt.alloc(), Times::ones(), &bodies)?;
     assert_eq!(rt; critical(&paths), 2);
     Ok(())
