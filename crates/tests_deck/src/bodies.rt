@@ -99,7 +99,11 @@ pub fn body_of_g(rt: &impl Abort, alloc: Global) -> Result<Body, Fail> {
     push_fresh(rt, &mut body, Class::Q, 1)?;
     let (own, parameter) = (Wire::qubit(1), Wire::qubit(0));
     let h = Gate::one(Kind::H, own);
-    push_all(rt, &mut body, &[h, h, h, Gate::two(Kind::Cnot, own, parameter)])?;
+    push_all(
+        rt,
+        &mut body,
+        &[h, h, h, Gate::two(Kind::Cnot, own, parameter)],
+    )?;
     Ok(body)
 }
 
@@ -111,7 +115,12 @@ pub fn body_of_one(rt: &impl Abort, alloc: Global, kind: Kind) -> Result<Body, F
 }
 
 /// So many calls of a body on the parameter.
-pub fn body_of_calls(rt: &impl Abort, alloc: Global, callee: u32, turns: u64) -> Result<Body, Fail> {
+pub fn body_of_calls(
+    rt: &impl Abort,
+    alloc: Global,
+    callee: u32,
+    turns: u64,
+) -> Result<Body, Fail> {
     let mut body = Body::new(alloc, 1, 0);
     push_calls(rt, &mut body, callee, &[Wire::qubit(0)], turns)?;
     Ok(body)
@@ -183,7 +192,12 @@ fn compare_with_three() -> [Gate; 10] {
         cnot_on(4, 6),
         x_on(6),
         cnot_on(5, 7),
-        Gate::three(Kind::Toffoli, Wire::qubit(7), Wire::qubit(6), Wire::qubit(8)),
+        Gate::three(
+            Kind::Toffoli,
+            Wire::qubit(7),
+            Wire::qubit(6),
+            Wire::qubit(8),
+        ),
     ]
 }
 
@@ -193,7 +207,11 @@ fn oracle(rt: &impl Abort, alloc: Global) -> Result<Body, Fail> {
     push_fresh(rt, &mut body, Class::Q, 6)?;
     let mut gates = compare_with_three();
     push_all(rt, &mut body, &gates)?;
-    push(rt, &mut body, Gate::two(Kind::Cnot, Wire::qubit(8), Wire::qubit(2)))?;
+    push(
+        rt,
+        &mut body,
+        Gate::two(Kind::Cnot, Wire::qubit(8), Wire::qubit(2)),
+    )?;
     gates.reverse();
     push_all(rt, &mut body, &gates)?;
     Ok(body)
@@ -218,8 +236,16 @@ pub fn search(rt: &impl Abort, alloc: Global) -> Result<[Body; 3], Fail> {
     push_fresh(rt, &mut main, Class::Q, 2)?;
     push_fresh(rt, &mut main, Class::Q, 1)?;
     push_fresh(rt, &mut main, Class::C, 2)?;
-    push_all(rt, &mut main, &[Gate::one(Kind::X, flag), Gate::one(Kind::H, flag)])?;
-    push_all(rt, &mut main, &[Gate::one(Kind::H, a), Gate::one(Kind::H, b)])?;
+    push_all(
+        rt,
+        &mut main,
+        &[Gate::one(Kind::X, flag), Gate::one(Kind::H, flag)],
+    )?;
+    push_all(
+        rt,
+        &mut main,
+        &[Gate::one(Kind::H, a), Gate::one(Kind::H, b)],
+    )?;
     push_calls(rt, &mut main, 0, &[a, b, flag], 1)?;
     push_calls(rt, &mut main, 1, &[a, b], 1)?;
     push(rt, &mut main, Gate::two(Kind::MeasZ, a, Wire::cbit(0)))?;

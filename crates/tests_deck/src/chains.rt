@@ -15,6 +15,9 @@ use std::test::Fail;
 /// At most so many gates, so that all sets of positions can be tried.
 const MOST: usize = 11;
 
+/// How many sets of so many positions there are.
+const SETS: u32 = 2048;
+
 /// A gate on wires of the whole program. A gate on one wire has it twice.
 #[derive(Clone, Copy, Debug)]
 struct Placed {
@@ -42,7 +45,10 @@ struct Dice {
 
 impl Dice {
     fn roll(&mut self, sides: u32) -> u32 {
-        self.state = self.state.wrapping_mul(6_364_136_223_846_793_005).wrapping_add(1_442_695_040_888_963_407);
+        self.state = self
+            .state
+            .wrapping_mul(6_364_136_223_846_793_005)
+            .wrapping_add(1_442_695_040_888_963_407);
         ((self.state >> 33) % u64::from(sides.max(1))) as u32
     }
 }
@@ -73,12 +79,23 @@ fn moved(wire: u32, a: u32, b: u32, fresh: u32) -> u32 {
 }
 
 /// Appends a T, a CNOT or a measurement to the body and to its expansion. They last 3, 1 and 2.
-fn push_gate(rt: &impl Abort, dice: &mut Dice, body: &mut Body, expansion: &mut Expansion) -> Result<(), Fail> {
+fn push_gate(
+    rt: &impl Abort,
+    dice: &mut Dice,
+    body: &mut Body,
+    expansion: &mut Expansion,
+) -> Result<(), Fail> {
     let (a, b) = two_qubits(dice);
     let (gate, placed) = match dice.roll(3) {
         0 => (Gate::one(Kind::T, local(a)), Placed { weight: 3, a, b: a }),
-        1 => (Gate::two(Kind::Cnot, local(a), local(b)), Placed { weight: 1, a, b }),
-        _ => (Gate::two(Kind::MeasZ, local(a), Wire::cbit(0)), Placed { weight: 2, a, b: 2 }),
+        1 => (
+            Gate::two(Kind::Cnot, local(a), local(b)),
+            Placed { weight: 1, a, b },
+        ),
+        _ => (
+            Gate::two(Kind::MeasZ, local(a), Wire::cbit(0)),
+            Placed { weight: 2, a, b: 2 },
+        ),
     };
     push(rt, body, gate)?;
     Ok(expansion.gates.push(placed)?)
@@ -106,11 +123,17 @@ fn push_turns(
     expansion: &mut Expansion,
     callees: &[Expansion],
 ) -> Result<(), Fail> {
-    let number = dice.roll(callees.len() as u32);
-    let turns = dice.roll(3) + 1;
+    let number = dice.roll(callees.len().min(3) as u32);
+    let turns = dice.roll(3).saturating_add(1);
     let (a, b) = two_qubits(dice);
     let callee = callees.get(number as usize).ok_or("no callee")?;
-    push_calls(rt, body, number, &[local(a), local(b), local(2)], u64::from(turns))?;
+    push_calls(
+        rt,
+        body,
+        number,
+        &[local(a), local(b), local(2)],
+        u64::from(turns),
+    )?;
     for _ in 0..turns {
         expand(expansion, callee, a, b)?;
     }
@@ -133,7 +156,12 @@ fn push_item(
 }
 
 /// A body of a few items, and its expansion.
-fn random_body(rt: &impl Abort, alloc: Global, dice: &mut Dice, callees: &[Expansion]) -> Result<(Body, Expansion), Fail> {
+fn random_body(
+    rt: &impl Abort,
+    alloc: Global,
+    dice: &mut Dice,
+    callees: &[Expansion],
+) -> Result<(Body, Expansion), Fail> {
     let mut body = Body::new(alloc, 2, 1);
     push_fresh(rt, &mut body, Class::Q, 1)?;
     let mut expansion = Expansion {
@@ -173,13 +201,20 @@ fn chain_of(gates: &[Placed], set: u32) -> Option<(Placed, Placed, u128)> {
     chain
 }
 
+/// Raises the weight at each end of the last gate.
+fn raise_ends(ends: &mut [u128; 4], last: &Placed, weight: u128) {
+    for to in 0..4 {
+        if has(last, to) {
+            ends[to] = ends[to].max(weight);
+        }
+    }
+}
+
 /// Raises the weight at each start of the first gate and each end of the last.
 fn raise(weights: &mut Weights, first: &Placed, last: &Placed, weight: u128) {
     for from in 0..4 {
-        for to in 0..4 {
-            if has(first, from) && has(last, to) {
-                weights[from][to] = weights[from][to].max(weight);
-            }
+        if has(first, from) {
+            raise_ends(&mut weights[from], last, weight);
         }
     }
 }
@@ -187,7 +222,7 @@ fn raise(weights: &mut Weights, first: &Placed, last: &Placed, weight: u128) {
 /// The greatest weights over all chains.
 fn weights_of(gates: &[Placed]) -> Weights {
     let mut weights = [[0; 4]; 4];
-    for set in 1..1u32 << MOST {
+    for set in 1..SETS {
         if let Some((first, last, weight)) = chain_of(gates, set) {
             raise(&mut weights, &first, &last, weight);
         }
@@ -195,20 +230,30 @@ fn weights_of(gates: &[Placed]) -> Weights {
     weights
 }
 
-/// The wire at a place, and None for anywhere.
-fn end_at(place: u32) -> Option<u32> {
-    if place == 3 { None } else { Some(place) }
+/// What the table answers for a start.
+fn ends_in(table: &Table, from: Option<u32>) -> [u128; 4] {
+    let answers = [
+        table.get(from, Some(0)),
+        table.get(from, Some(1)),
+        table.get(from, Some(2)),
+        table.get(from, None),
+    ];
+    [
+        answers[0].unwrap_or(0),
+        answers[1].unwrap_or(0),
+        answers[2].unwrap_or(0),
+        answers[3].unwrap_or(0),
+    ]
 }
 
 /// What the table answers.
 fn weights_in(table: &Table) -> Weights {
-    let mut weights = [[0; 4]; 4];
-    for from in 0..4u32 {
-        for to in 0..4u32 {
-            weights[from as usize][to as usize] = table.get(end_at(from), end_at(to)).unwrap_or(0);
-        }
-    }
-    weights
+    [
+        ends_in(table, Some(0)),
+        ends_in(table, Some(1)),
+        ends_in(table, Some(2)),
+        ends_in(table, None),
+    ]
 }
 
 /// Three bodies of a seed, each compared where it has few gates.
@@ -219,14 +264,18 @@ fn compare(rt: &impl Abort, alloc: Global, seed: u64) -> Result<u32, Fail> {
     let mut dice = Dice { state: seed };
     let mut paths = Paths::new(alloc, slow);
     let mut expansions = Vec::new(alloc);
-    let mut compared = 0;
+    let mut compared = 0u32;
     for number in 0..3u32 {
         let (body, expansion) = random_body(rt, alloc, &mut dice, &expansions)?;
         add(rt, &mut paths, &body)?;
         let table = paths.table(number).ok_or("no table")?;
         if expansion.gates.len() <= MOST {
-            assert_eq!(rt; weights_in(table), weights_of(&expansion.gates), "seed {seed}, body {number}");
-            compared += 1;
+            assert_eq!(rt;
+                weights_in(table),
+                weights_of(&expansion.gates),
+                "seed {seed}, body {number}"
+            );
+            compared = compared.saturating_add(1);
         }
         expansions.push(expansion)?;
     }

@@ -1,5 +1,8 @@
 //! Path tables of bodies that are built by hand.
-use crate::bodies::{body_of_calls, body_of_g, body_of_one, doublings, main_of_calls, main_of_gates, many_of_x, push, push_all, push_calls, push_fresh, qubits, search};
+use crate::bodies::{
+    body_of_calls, body_of_g, body_of_one, doublings, main_of_calls, main_of_gates, many_of_x,
+    push, push_all, push_calls, push_fresh, qubits, search,
+};
 use crate::known::{add, paths_of};
 use sc_base::{Class, GateName};
 use sc_deck::Body;
@@ -11,7 +14,10 @@ use std::process::Abort;
 use std::test::Fail;
 
 fn critical_of_turns(rt: &impl Abort, alloc: Global, turns: u64) -> Result<u128, Fail> {
-    let bodies = [body_of_g(rt, alloc)?, main_of_calls(rt, alloc, 0, 1, turns)?];
+    let bodies = [
+        body_of_g(rt, alloc)?,
+        main_of_calls(rt, alloc, 0, 1, turns)?,
+    ];
     Ok(critical(&paths_of(rt, alloc, Times::ones(), &bodies)?))
 }
 
@@ -52,13 +58,22 @@ fn a_table_answers_for_its_wires(rt: HostRuntime) -> Result<(), Fail> {
 /// A measurement of a qubit parameter into a classical one: qubits are numbered first.
 fn measured(rt: &impl Abort, alloc: Global) -> Result<Body, Fail> {
     let mut body = Body::new(alloc, 2, 1);
-    push(rt, &mut body, Gate::two(Kind::MeasZ, Wire::qubit(1), Wire::cbit(0)))?;
+    push(
+        rt,
+        &mut body,
+        Gate::two(Kind::MeasZ, Wire::qubit(1), Wire::cbit(0)),
+    )?;
     Ok(body)
 }
 
 #[test]
 fn classical_bits_come_after_qubits(rt: HostRuntime) -> Result<(), Fail> {
-    let paths = paths_of(&rt, rt.alloc(), Times::ones(), &[measured(&rt, rt.alloc())?])?;
+    let paths = paths_of(
+        &rt,
+        rt.alloc(),
+        Times::ones(),
+        &[measured(&rt, rt.alloc())?],
+    )?;
     let table = paths.table(0).ok_or("no table")?;
     let weights = [
         table.get(Some(1), Some(2)),
@@ -70,7 +85,12 @@ fn classical_bits_come_after_qubits(rt: HostRuntime) -> Result<(), Fail> {
     Ok(())
 }
 
-fn critical_of_gates(rt: &impl Abort, alloc: Global, times: Times, gates: &[Gate]) -> Result<u128, Fail> {
+fn critical_of_gates(
+    rt: &impl Abort,
+    alloc: Global,
+    times: Times,
+    gates: &[Gate],
+) -> Result<u128, Fail> {
     let bodies = [main_of_gates(rt, alloc, 3, gates)?];
     Ok(critical(&paths_of(rt, alloc, times, &bodies)?))
 }
@@ -145,14 +165,22 @@ fn wide(rt: &impl Abort, alloc: Global, n: u32) -> Result<Body, Fail> {
 
 #[test]
 fn a_wide_module_called_twice(rt: HostRuntime) -> Result<(), Fail> {
-    let bodies = [wide(&rt, rt.alloc(), 1000)?, main_of_calls(&rt, rt.alloc(), 0, 1000, 2)?];
+    let bodies = [
+        wide(&rt, rt.alloc(), 1000)?,
+        main_of_calls(&rt, rt.alloc(), 0, 1000, 2)?,
+    ];
     let paths = paths_of(&rt, rt.alloc(), Times::ones(), &bodies)?;
     assert_eq!(rt; critical(&paths), 2);
     Ok(())
 }
 
 /// The table of so many turns, from wire 0 to itself.
-fn power_of(rt: &impl Abort, alloc: Global, table: &Table, n: u64) -> Result<[Option<u128>; 2], Fail> {
+fn power_of(
+    rt: &impl Abort,
+    alloc: Global,
+    table: &Table,
+    n: u64,
+) -> Result<[Option<u128>; 2], Fail> {
     assert!(rt; n >= 1 && table.rows.len() >= 1 && table.rows.len() <= 65537);
     let power = table.power(alloc, n)?;
     Ok([power.get(Some(0), Some(0)), power.get(None, None)])
@@ -165,9 +193,18 @@ fn powers_of_x_and_of_g(rt: HostRuntime) -> Result<(), Fail> {
     let paths = paths_of(&rt, alloc, Times::ones(), &bodies)?;
     let x = paths.table(0).ok_or("no table of x")?;
     let g = paths.table(1).ok_or("no table of g")?;
-    for (n, greatest) in [(1, 1), (2, 2), (3, 3), (18_446_744_073_709_551_615, 18_446_744_073_709_551_615)] {
-        assert_eq!(rt; power_of(&rt, alloc, x, n)?, [Some(greatest), Some(greatest)]);
-        assert_eq!(rt; power_of(&rt, alloc, g, n)?, [Some(greatest), Some(greatest + 3)]);
+    for (n, of_x, of_g) in [
+        (1, 1, 4),
+        (2, 2, 5),
+        (3, 3, 6),
+        (
+            18_446_744_073_709_551_615,
+            18_446_744_073_709_551_615,
+            18_446_744_073_709_551_618,
+        ),
+    ] {
+        assert_eq!(rt; power_of(&rt, alloc, x, n)?, [Some(of_x), Some(of_x)]);
+        assert_eq!(rt; power_of(&rt, alloc, g, n)?, [Some(of_x), Some(of_g)]);
     }
     Ok(())
 }
@@ -199,7 +236,11 @@ fn calls_that_share_one_qubit(rt: HostRuntime) -> Result<(), Fail> {
     let alloc = rt.alloc();
     let mut pair = Body::new(alloc, 2, 0);
     let (a, b) = (Wire::qubit(0), Wire::qubit(1));
-    push_all(&rt, &mut pair, &[Gate::one(Kind::T, a), Gate::two(Kind::Cnot, a, b)])?;
+    push_all(
+        &rt,
+        &mut pair,
+        &[Gate::one(Kind::T, a), Gate::two(Kind::Cnot, a, b)],
+    )?;
     let mut main = Body::new(alloc, 0, 0);
     push_fresh(&rt, &mut main, Class::Q, 3)?;
     push_calls(&rt, &mut main, 0, &[b, Wire::qubit(2)], 1)?;

@@ -24,8 +24,19 @@ fn named(counts: &Counts, name: GateName) -> u128 {
 
 #[test]
 fn an_empty_main(rt: HostRuntime) -> Result<(), Fail> {
-    let counts = last_of(&rt, rt.alloc(), Times::ones(), &[Body::new(rt.alloc(), 0, 0)])?;
-    let numbers = (counts.gates, counts.weight, counts.qubits, counts.cbits, counts.peak);
+    let counts = last_of(
+        &rt,
+        rt.alloc(),
+        Times::ones(),
+        &[Body::new(rt.alloc(), 0, 0)],
+    )?;
+    let numbers = (
+        counts.gates,
+        counts.weight,
+        counts.qubits,
+        counts.cbits,
+        counts.peak,
+    );
     assert_eq!(rt; numbers, (0, 0, 0, 0, 0));
     assert_eq!(rt; counts.kinds, [0; 18]);
     Ok(())
@@ -47,7 +58,10 @@ fn the_gates_of_the_tables(rt: HostRuntime) -> Result<(), Fail> {
         let body = main_of_gates(&rt, rt.alloc(), 3, gates)?;
         let counts = last_of(&rt, rt.alloc(), times, &[body])?;
         assert_eq!(rt; (counts.qubits, counts.peak), (3, 3));
-        assert_eq!(rt; (counts.weight, named(&counts, GateName::Cnot)), (weight, cnots));
+        assert_eq!(rt;
+            (counts.weight, named(&counts, GateName::Cnot)),
+            (weight, cnots)
+        );
     }
     Ok(())
 }
@@ -88,13 +102,21 @@ fn nests(rt: &impl Abort, alloc: Global, n: u32) -> Result<Vec<Body>, Fail> {
 #[test]
 fn qubits_of_which_one_is_live(rt: HostRuntime) -> Result<(), Fail> {
     let counts = last_of(&rt, rt.alloc(), Times::ones(), &nests(&rt, rt.alloc(), 33)?)?;
-    assert_eq!(rt; (counts.qubits, counts.peak, counts.gates), (8_589_934_592, 1, 0));
+    assert_eq!(rt;
+        (counts.qubits, counts.peak, counts.gates),
+        (8_589_934_592, 1, 0)
+    );
     Ok(())
 }
 
 #[test]
 fn instances_side_by_side(rt: HostRuntime) -> Result<(), Fail> {
-    let counts = last_of(&rt, rt.alloc(), Times::ones(), &many_of_x(&rt, rt.alloc(), 2047)?)?;
+    let counts = last_of(
+        &rt,
+        rt.alloc(),
+        Times::ones(),
+        &many_of_x(&rt, rt.alloc(), 2047)?,
+    )?;
     assert_eq!(rt; (counts.gates, counts.qubits, counts.peak), (2047, 1, 1));
     Ok(())
 }

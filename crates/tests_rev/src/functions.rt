@@ -38,7 +38,13 @@ fn push_bits(bits: &mut Vec<bool>, number: u64, count: u32) -> Result<(), Fail> 
 }
 
 /// The qubits of a body, where its words and its output have these numbers, and its scratch is zero.
-fn bits_of(alloc: Global, body: &Body, outputs: u32, words: u64, output: u64) -> Result<Vec<bool>, Fail> {
+fn bits_of(
+    alloc: Global,
+    body: &Body,
+    outputs: u32,
+    words: u64,
+    output: u64,
+) -> Result<Vec<bool>, Fail> {
     let params = body.params(Class::Q);
     let mut bits = Vec::new(alloc);
     push_bits(&mut bits, words, params.saturating_sub(outputs))?;
@@ -60,6 +66,10 @@ pub fn check_run(
     let mut bits = bits_of(alloc, body, outputs, words, before)?;
     run_bits(body, bits.as_mut_slice());
     let want = bits_of(alloc, body, outputs, words, after)?;
-    assert_eq!(rt; bits.as_slice(), want.as_slice(), "words {words}, output {before}");
+    assert_eq!(rt;
+        bits.as_slice(),
+        want.as_slice(),
+        "words {words}, output {before}"
+    );
     Ok(())
 }

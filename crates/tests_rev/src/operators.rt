@@ -82,7 +82,13 @@ impl Operator {
     }
 
     /// Its text on two words of this width.
-    fn text(self, alloc: Global, left: &str, right: &str, width: u32) -> Result<String, AllocError> {
+    fn text(
+        self,
+        alloc: Global,
+        left: &str,
+        right: &str,
+        width: u32,
+    ) -> Result<String, AllocError> {
         let wider = width.saturating_add(1);
         match self {
             Operator::Not => format!(in alloc; "~{left}"),
@@ -161,7 +167,9 @@ impl Function {
 
     fn text(self, alloc: Global) -> Result<String, AllocError> {
         let (width, outputs) = (self.width, self.outputs());
-        let first = self.first.text(alloc, "a", self.right(alloc, "a", width)?.as_str(), width)?;
+        let first = self
+            .first
+            .text(alloc, "a", self.right(alloc, "a", width)?.as_str(), width)?;
         let head = format!(in alloc; "classical f(a[{width}], b[{width}]) : {outputs}")?;
         let Some(second) = self.second else {
             return format!(in alloc; "{head} {{ return {first}; }}");
@@ -172,7 +180,9 @@ impl Function {
     }
 
     fn value(self, a: u64, b: u64) -> u64 {
-        let first = self.first.value(a, self.right_value(a, b, self.width), self.width);
+        let first = self
+            .first
+            .value(a, self.right_value(a, b, self.width), self.width);
         let Some(second) = self.second else {
             return first;
         };
@@ -185,17 +195,33 @@ impl Function {
 fn check_function(rt: &impl Abort, alloc: Global, function: Function) -> Result<(), Fail> {
     let body = body_of(rt, alloc, function.text(alloc)?.as_str())?;
     for words in 0..power_of_two(function.width.saturating_mul(2)) {
-        let (a, b) = (modulo(words, function.width), words / power_of_two(function.width).max(1));
+        let (a, b) = (
+            modulo(words, function.width),
+            words / power_of_two(function.width).max(1),
+        );
         let value = function.value(a, b);
         for output in 0..power_of_two(function.outputs()) {
-            check_run(rt, alloc, &body, function.outputs(), words, output, output ^ value)?;
+            check_run(
+                rt,
+                alloc,
+                &body,
+                function.outputs(),
+                words,
+                output,
+                output ^ value,
+            )?;
         }
     }
     Ok(())
 }
 
 /// All functions of one operator.
-fn check_single(rt: &impl Abort, alloc: Global, width: u32, operands: Operands) -> Result<(), Fail> {
+fn check_single(
+    rt: &impl Abort,
+    alloc: Global,
+    width: u32,
+    operands: Operands,
+) -> Result<(), Fail> {
     for first in OPERATORS {
         let function = Function {
             width,
@@ -229,7 +255,12 @@ fn check_second(
 }
 
 /// All functions of two operators.
-pub fn check_pairs(rt: &impl Abort, alloc: Global, width: u32, operands: Operands) -> Result<(), Fail> {
+pub fn check_pairs(
+    rt: &impl Abort,
+    alloc: Global,
+    width: u32,
+    operands: Operands,
+) -> Result<(), Fail> {
     for second in OPERATORS {
         check_second(rt, alloc, width, operands, second)?;
     }

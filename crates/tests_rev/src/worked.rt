@@ -181,14 +181,25 @@ const OTHER_WIRES: [Example; 6] = [
 
 /// How many of the items are gates.
 fn gate_count(body: &Body) -> usize {
-    body.items().iter().filter(|item| matches!(item, Item::Gate(_))).count()
+    body.items()
+        .iter()
+        .filter(|item| matches!(item, Item::Gate(_)))
+        .count()
 }
 
 fn check_example(rt: &impl Abort, alloc: Global, example: &Example) -> Result<(), Fail> {
     let body = body_of(rt, alloc, example.function)?;
     assert_eq!(rt; body.params(Class::C), 0);
     assert_eq!(rt; gate_count(&body), example.gates);
-    check_run(rt, alloc, &body, example.outputs, example.words, example.before, example.after)
+    check_run(
+        rt,
+        alloc,
+        &body,
+        example.outputs,
+        example.words,
+        example.before,
+        example.after,
+    )
 }
 
 #[test]
@@ -224,13 +235,25 @@ fn is_kind(item: &Item, kind: Kind) -> bool {
 }
 
 fn count_of(body: &Body, kind: Kind) -> usize {
-    body.items().iter().filter(|item| is_kind(item, kind)).count()
+    body.items()
+        .iter()
+        .filter(|item| is_kind(item, kind))
+        .count()
 }
 
 #[test]
 fn a_sum_of_eight_bits(rt: HostRuntime) -> Result<(), Fail> {
-    let body = body_of(&rt, rt.alloc(), "classical add(a[8], b[8]) : 8 { return a + b; }")?;
-    let counts = (body.params(Class::Q), body.wires(), count_of(&body, Kind::Cnot), count_of(&body, Kind::Toffoli));
+    let body = body_of(
+        &rt,
+        rt.alloc(),
+        "classical add(a[8], b[8]) : 8 { return a + b; }",
+    )?;
+    let counts = (
+        body.params(Class::Q),
+        body.wires(),
+        count_of(&body, Kind::Cnot),
+        count_of(&body, Kind::Toffoli),
+    );
     assert_eq!(rt; counts, (24, 39, 54, 26));
     Ok(())
 }
@@ -249,16 +272,25 @@ fn lines_of(rt: &impl Abort, alloc: Global, items: &[Item]) -> Result<MemSink, F
 
 #[test]
 fn the_gates_of_a_sum_of_two_bits(rt: HostRuntime) -> Result<(), Fail> {
-    let body = body_of(&rt, rt.alloc(), "classical add(a[2], b[2]) : 2 { return a + b; }")?;
+    let body = body_of(
+        &rt,
+        rt.alloc(),
+        "classical add(a[2], b[2]) : 2 { return a + b; }",
+    )?;
     let lines = lines_of(&rt, rt.alloc(), body.items())?;
-    let want = b"CNOT q0,q6\nCNOT q2,q6\nToffoli q0,q2,q8\nCNOT q1,q7\nCNOT q3,q7\nCNOT q8,q7\nCNOT q6,q4\nCNOT q7,q5\nCNOT q8,q7\nCNOT q3,q7\nCNOT q1,q7\nToffoli q0,q2,q8\nCNOT q2,q6\nCNOT q0,q6\n".as_slice();
+    let want =
+        b"CNOT q0,q6\nCNOT q2,q6\nToffoli q0,q2,q8\nCNOT q1,q7\nCNOT q3,q7\nCNOT q8,q7\nCNOT q6,q4\nCNOT q7,q5\nCNOT q8,q7\nCNOT q3,q7\nCNOT q1,q7\nToffoli q0,q2,q8\nCNOT q2,q6\nCNOT q0,q6\n".as_slice();
     assert_eq!(rt; lines.written(), want);
     Ok(())
 }
 
 #[test]
 fn the_first_gates_of_a_comparison(rt: HostRuntime) -> Result<(), Fail> {
-    let body = body_of(&rt, rt.alloc(), "classical isthree(a[2]) : 1 { return a == 3; }")?;
+    let body = body_of(
+        &rt,
+        rt.alloc(),
+        "classical isthree(a[2]) : 1 { return a == 3; }",
+    )?;
     assert!(rt; body.items().len() > 4);
     assert!(rt; matches!(body.items()[0], Item::Fresh(Class::Q, 6)));
     let lines = lines_of(&rt, rt.alloc(), &body.items()[..4])?;
