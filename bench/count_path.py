@@ -32,12 +32,11 @@ mod sizes;
 '''
 
 SIZES_RT = '''//! One large program.
-use crate::bodies::{body_of_calls, doublings, main_of_calls, many_of_x, push, qubits};
+use crate::bodies::{doublings, main_of_calls, many_of_x, push, qubits};
 use crate::known::{paths_of, tally_of};
-use sc_count::Tally;
 use sc_deck::Body;
 use sc_gate::{Gate, Kind, Times, Wire};
-use sc_path::{Paths, critical};
+use sc_path::critical;
 use std::alloc::Global;
 use std::process::Abort;
 use std::test::Fail;
@@ -74,7 +73,6 @@ fn long(rt: &impl Abort, alloc: Global, n: u32) -> Result<Body, Fail> {
 }
 
 fn program(rt: &impl Abort, alloc: Global) -> Result<Vec<Body>, Fail> {
-    let mut bodies = Vec::new(alloc);
     PROGRAM
 }
 
@@ -93,15 +91,21 @@ fn sizes(rt: HostRuntime) -> Result<(), Fail> {
 }
 '''
 
-PUSH = 'bodies.push({})?;'
+
+
+def bodies(*made):
+    """The text of a program of these bodies."""
+    return 'let mut bodies = Vec::new(alloc);' + ''.join(f' bodies.push({body}?)?;' for body in made) + ' Ok(bodies)'
+
+
 CASES = {
-    'wide': PUSH.format('wide(rt, alloc, 20000)?') + PUSH.format('main_of_calls(rt, alloc, 0, 20000, 2)?') + 'Ok(bodies)',
-    'instances': 'let _ = bodies.pop(); many_of_x(rt, alloc, 65535)',
-    'ladder': PUSH.format('ladder(rt, alloc, 2000)?') + 'Ok(bodies)',
-    'ladder_called': PUSH.format('ladder(rt, alloc, 500)?') + PUSH.format('main_of_calls(rt, alloc, 0, 500, 1)?') + 'Ok(bodies)',
-    'nested': 'let _ = bodies.pop(); doublings(rt, alloc, 100)',
-    'long': PUSH.format('long(rt, alloc, 1000000)?') + 'Ok(bodies)',
-    'turns': PUSH.format('ladder(rt, alloc, 100)?') + PUSH.format('main_of_calls(rt, alloc, 0, 100, 18446744073709551615)?') + 'Ok(bodies)',
+    'wide': bodies('wide(rt, alloc, 20000)', 'main_of_calls(rt, alloc, 0, 20000, 2)'),
+    'instances': 'many_of_x(rt, alloc, 65535)',
+    'ladder': bodies('ladder(rt, alloc, 2000)'),
+    'ladder_called': bodies('ladder(rt, alloc, 500)', 'main_of_calls(rt, alloc, 0, 500, 1)'),
+    'nested': 'doublings(rt, alloc, 100)',
+    'long': bodies('long(rt, alloc, 1000000)'),
+    'turns': bodies('ladder(rt, alloc, 100)', 'main_of_calls(rt, alloc, 0, 100, 18446744073709551615)'),
 }
 
 
@@ -127,7 +131,7 @@ def peaks(pid, names):
 
 
 def run(folder):
-    child = subprocess.Popen(['rt', 'try', '--test'], cwd=folder, stdout=subprocess.PIPE, stderr=subprocess.STDOUT, text=True)
+    child = subprocess.Popen(['rt', 'try', '--test', '--seconds', '600'], cwd=folder, stdout=subprocess.PIPE, stderr=subprocess.STDOUT, text=True)
     names, said = {}, []
     reader = threading.Thread(target=lambda: said.extend(child.stdout.read().splitlines()))
     reader.start()
