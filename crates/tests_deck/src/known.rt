@@ -1,5 +1,5 @@
 //! Bodies that are added to counts and to path tables, once it is seen that the bodies that they call are there.
-ghost use Rattle.std.specs.Prelude.{◌<◌, IsTrue, length};
+ghost use Rattle.std.specs.Prelude.{◌<◌, [], ◌∷◌, IsTrue, length};
 ghost use Rattle.std.specs.List.{AllByRecursion};
 ghost use Rattle.sc_deck.specs.Items.{callees_of};
 ghost use Rattle.sc_count.specs.Limits.{AreSound};
