@@ -61,7 +61,7 @@ ends_below starts ends n a b e =
 pub params_low : (body : Contents) → (body.params.qubits ≤ (wires_of body).qubits) × (body.params.cbits ≤ (wires_of body).cbits)
 params_low body = (numbers_grow Q body.items body.params, numbers_grow C body.items body.params)
 
-ends_many : (starts ends : Numbers) → length (end_rows starts ends) ≡ both starts
+pub ends_many : (starts ends : Numbers) → length (end_rows starts ends) ≡ both starts
 ends_many starts ends =
     let a = length-append (range_with_len 0 starts.qubits) (range_with_len ends.qubits starts.cbits) in
     let b = length-range_with_len 0 starts.qubits in

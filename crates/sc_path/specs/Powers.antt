@@ -1,7 +1,12 @@
 -- Turns: gate lists one after another on the same parameter wires, each with fresh wires of its own.
 use Rattle.std.specs.Prelude.{◌≡◌, ℕ, ◌+◌, ◌<◌, ◌⊎◌, Bool, true, false, List, [], ◌++◌, map, length, None, ◌-◌, ◌*◌, slice_index}
 use Rattle.sc_gate.specs.declared.gate.Wire.{Wire}
-use Rattle.sc_gate.specs.Chains.{Timed, best}
+use Rattle.sc_gate.specs.Chains.{Timed, timed, best}
+use Rattle.sc_gate.specs.Numbers.{no_wires}
+use Rattle.sc_deck.specs.Events.{gates_in}
+use Rattle.sc_deck.specs.Keys.{param_classes, params_of}
+use Rattle.sc_deck.specs.Modules.{Module}
+use Rattle.sc_deck.specs.Unfolding.{numbered, repeated, unfold_on}
 use Rattle.sc_gate.specs.Paths.{WiresAre, TakeTime}
 use Rattle.sc_gate.specs.Renaming.{rename_timed, IsOneToOne}
 use Rattle.sc_path.specs.declared.row.Entry.{Entry}
@@ -32,6 +37,11 @@ pub record AreTurns (q k : ℕ) (turns : ℕ → List Timed) : Type 0 where
   pub none : turns 0 ≡ []
   pub times : (n : ℕ) → TakeTime (turns n)
   pub adds : (a b : ℕ) → Follows q k (turns a) (turns b) (turns (a + b))
+
+-- what chains see of the gates of n calls of module i, one after another on its parameter wires, each with fresh wires of its own
+abbrev pub calls_in_a_row : List ℕ → List Module → ℕ → Module → ℕ → List Timed
+calls_in_a_row times modules i m n =
+    map (timed times) (gates_in (repeated n (unfold_on modules i (numbered (param_classes m.key) no_wires)) (params_of m.key)))
 
 -- why a power is refused: a chain of its turns is too heavy
 abbrev pub WhyPower : List (List Entry) → ℕ → PathFault → Type 0

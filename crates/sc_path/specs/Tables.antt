@@ -80,6 +80,12 @@ pub record Extends (modules : List Module) (key : Key) (body : Contents) : Type 
   pub params : params_of key ≡ body.params
   pub deck : IsDeck (modules ++ record { key = key; items = body.items } ∷ [])
 
+-- one table more, with a row for each parameter wire of the body and the last row
+pub record HasTableMore (old new : List Table) (body : Contents) : Type 0 where
+  pub table : Table
+  pub appended : new ≡ old ++ table ∷ []
+  pub size : length table.rows ≡ both body.params + 1
+
 -- Why a body is refused: a chain of its expansion is too heavy.
 abbrev pub WhyAdded : List Table → List ℕ → Contents → PathFault → Type 0
 WhyAdded tables times body Memory = Unit {0}

@@ -31,6 +31,7 @@ pub fn table_of(
     body: &Body,
 ) -> Result<Table, PathFault>
     requires known { CallsKnown tables.now body.now.items }
+    ensures size { IfOk result (λ table. length table.rows ≡ both body.now.params + 1) }
     ensures table { IfOk result (λ table. (modules : List Module) (key : Key) → Extends modules key body.now → StandsFor tables.now times.now modules →
         IsTableOf times.now (modules ++ record { key = key; items = body.now.items } ∷ []) (length modules) (record { key = key; items = body.now.items }) table) }
     ensures large { IfErr result (WhyAdded tables.now times.now body.now) }

@@ -5,7 +5,7 @@ ghost use Rattle.sc_gate.specs.Chains.{or_zero, critical_of};
 ghost use Rattle.sc_deck.specs.Modules.{Module};
 ghost use Rattle.sc_deck.specs.declared.key.Key.{Key};
 ghost use Rattle.sc_path.specs.declared.fault.PathFault.TheVariants.{CountTooLarge, Memory};
-ghost use Rattle.sc_path.specs.Tables.{StandsFor, CallsKnown, Extends, timed_gates, WhyAdded, critical_at};
+ghost use Rattle.sc_path.specs.Tables.{StandsFor, CallsKnown, Extends, HasTableMore, timed_gates, WhyAdded, critical_at};
 
 use crate::body::table_of;
 use crate::{PathFault, Table};
@@ -27,6 +27,7 @@ impl Paths {
     pub fn new(alloc: Global, times: Times) -> Paths
         ensures tables { result.tables ≡ [] }
         ensures times { result.times ≡ times }
+        ensures stands { StandsFor result.tables result.times [] }
     {
         Paths {
             tables: List::new(alloc),
@@ -43,6 +44,7 @@ impl Paths {
     pub fn add(&mut self, body: &Body) -> Result<(), PathFault>
         requires known { CallsKnown self.old.tables body.now.items }
         ensures times { self.new.times ≡ self.old.times }
+        ensures ok { OnOk result (HasTableMore self.old.tables self.new.tables body.now) }
         ensures err { OnErr result (self.new.tables ≡ self.old.tables) }
         ensures stands { OnOk result ((modules : List Module) (key : Key) → Extends modules key body.now → StandsFor self.old.tables self.old.times modules →
             StandsFor self.new.tables self.old.times (modules ++ record { key = key; items = body.now.items } ∷ [])) }

@@ -1,6 +1,6 @@
 //! The table of so many calls one after another.
-ghost use Rattle.std.specs.Prelude.{◌≡◌, ℕ, ◌+◌, ◌-◌, ◌*◌, ◌%◌, ◌<◌, ◌≤◌, List, length, slice_index, All, IfOk, IfErr, OnOk};
-ghost use Rattle.sc_gate.specs.Chains.{Timed, best};
+ghost use Rattle.std.specs.Prelude.{◌≡◌, ℕ, ◌+◌, ◌-◌, ◌*◌, ◌%◌, ◌^◌, ◌<◌, ◌≤◌, List, length, slice_index, All, IfOk, IfErr, OnOk};
+ghost use Rattle.sc_gate.specs.Chains.{Timed, best, critical_of};
 ghost use Rattle.sc_path.specs.declared.fault.PathFault.TheVariants.{Memory};
 ghost use Rattle.sc_path.specs.Fronts.{Bounded, Stands};
 ghost use Rattle.sc_path.specs.Powers.{AreTurns, WhyPower, WhyTurn, WhyTwice, WhyTurns, IsRange, params_at};
@@ -22,6 +22,8 @@ impl Table {
         ensures size { IfOk result (λ table. length table.rows ≡ length self.now.rows) }
         ensures turns { IfOk result (λ table. (q : ℕ) (turns : ℕ → List Timed) → AreTurns q (length self.now.rows - 1) turns →
             IsTable (turns 1) q (length self.now.rows - 1) self.now.rows → IsTable (turns n) q (length self.now.rows - 1) table.rows) }
+        ensures fits { OnOk result ((q : ℕ) (turns : ℕ → List Timed) → AreTurns q (length self.now.rows - 1) turns →
+            IsTable (turns 1) q (length self.now.rows - 1) self.now.rows → critical_of (turns n) < 2 ^ 128) }
         ensures err { IfErr result (WhyPower self.now.rows n) }
     {
         let wires = match numbers(alloc, (self.rows.len() - 1) as u32) {
@@ -36,7 +38,13 @@ impl Table {
             Ok(()) => {}
             Err(fault) => return Err(fault),
         }
-        finished(alloc, &front, &wires)
+        match finished(alloc, &front, &wires) {
+            Ok(table) => {
+                let _greatest = table.get(None, None).unwrap_or(0);
+                Ok(table)
+            }
+            Err(fault) => Err(fault),
+        }
     }
 }
 

@@ -2,6 +2,10 @@
 #![tactic(auto)]
 
 #[cfg(test)]
+mod bodies;
+#[cfg(test)]
+mod chains;
+#[cfg(test)]
 mod check;
 #[cfg(test)]
 mod counts;
@@ -12,6 +16,12 @@ mod gates;
 #[cfg(test)]
 mod hier;
 #[cfg(test)]
+mod known;
+#[cfg(test)]
+mod path;
+#[cfg(test)]
 mod read;
 #[cfg(test)]
 mod sched;
+#[cfg(test)]
+mod tallies;

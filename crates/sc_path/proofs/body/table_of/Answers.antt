@@ -1,7 +1,7 @@
-use Rattle.std.proofs.Common.{◌≡◌, ℕ, ◌+◌, ◌<◌, ◌≤◌, List, All, length, sym, subst, arith}
+use Rattle.std.proofs.Common.{◌≡◌, ℕ, ◌+◌, ◌<◌, ◌≤◌, List, All, length, sym, ap, ◌∙◌, subst, arith}
 use Rattle.sc_deck.specs.Bodies.{wires_of}
 use Rattle.sc_gate.specs.Numbers.{both}
-use Rattle.sc_path.proofs.BodyTable.{body_table, end_rows, ends_below, ends_same, params_low}
+use Rattle.sc_path.proofs.BodyTable.{body_table, end_rows, ends_below, ends_many, ends_same, params_low}
 use Rattle.sc_path.proofs.body.table_of.Goals as goal
 
 pub start_of-requires-clause-params : goal.start_of-requires-clause-params
@@ -36,6 +36,11 @@ table-requires-clause-few c =
     let n : both (wires_of c.args.body.now) ≤ 65536 = c.wires-wires.ensures.sound.narrow in
     let l = c.in-Ok-add_items.ensures.lasts in
     omega arith
+
+pub returns-in-Ok-table-clause-size : goal.returns-in-Ok-table-clause-size
+returns-in-Ok-table-clause-size c =
+    let e = ends_same c.args.body.now.params (wires_of c.args.body.now) c.params.result c.count.result c.params-2.result c.deref.result.now c.in-Ok-param_rows.ends.items c.deref.ensures.value c.in-Ok-param_rows.ensures.rows c.params.ensures c.count.ensures c.params-2.ensures in
+    c.in-Ok-table.ensures.size ∙ ap (λ (n : ℕ). n + 1) (ap length e ∙ ends_many c.args.body.now.params (wires_of c.args.body.now))
 
 pub returns-in-Ok-table-clause-table : goal.returns-in-Ok-table-clause-table
 returns-in-Ok-table-clause-table c = λ modules key ext sf.

@@ -7,6 +7,9 @@ use Rattle.sc_path.specs.Tables.{StandsFor, timed_gates}
 use Rattle.sc_path.proofs.BodyTable.{stands_more_tables, critical_fits}
 use Rattle.sc_path.proofs.paths.Paths.add.Goals as goal
 
+pub returns-in-Ok-push-clause-ok : goal.returns-in-Ok-push-clause-ok
+returns-in-Ok-push-clause-ok c = record { table = c.in-Ok.table; appended = c.in-Ok-push.ensures.ok; size = c.in-Ok.ensures.size }
+
 pub returns-in-Ok-push-clause-stands : goal.returns-in-Ok-push-clause-stands
 returns-in-Ok-push-clause-stands c = λ modules key ext sf.
     subst (λ (ts : List Table). StandsFor ts c.args.self.now.times (modules ++ record { key = key; items = c.args.body.now.items } ∷ [])) (sym c.in-Ok-push.ensures.ok)
