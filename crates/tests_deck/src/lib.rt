@@ -8,6 +8,8 @@ mod counts;
 #[cfg(test)]
 mod deck;
 #[cfg(test)]
+mod flat;
+#[cfg(test)]
 mod gates;
 #[cfg(test)]
 mod hier;

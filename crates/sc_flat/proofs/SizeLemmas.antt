@@ -1,0 +1,108 @@
+-- Sizes from the counts of a tally.
+use Rattle.std.proofs.Common.{◌≡◌, ℕ, ◌+◌, ◌-◌, ◌<◌, ◌≤◌, ◌^◌, ◌⊎◌, ◌↔◌, max, inl, inr, List, map, length, get_or, Option, Some, refl, sym, ap, subst, ◌∙◌, arith}
+use Rattle.std.specs.Prelude.{slice_get, All, Result, Ok, Err}
+use Rattle.std.specs.Option.{option_map}
+use Rattle.std.proofs.lemmas.Bool.{cases_lt}
+use Rattle.std.proofs.lemmas.List.{length-map}
+use Rattle.std.proofs.lemmas.Option.{slice_get_within, slice_get-map, get_or_from_slice_get}
+use Rattle.sc_gate.specs.Numbers.{Numbers}
+use Rattle.sc_deck.specs.Decks.{IsDeck, IsWhole}
+use Rattle.sc_deck.specs.Events.{fresh_in}
+use Rattle.sc_deck.specs.Modules.{Module}
+use Rattle.sc_deck.specs.Unfolding.{expansion, gates_of}
+use Rattle.sc_count.specs.declared.counts.Counts.{Counts}
+use Rattle.sc_count.specs.declared.tally.Tally.{Tally}
+use Rattle.sc_count.specs.Counting.{counts_in}
+use Rattle.sc_count.specs.Tallies.{StandsFor}
+use Rattle.sc_count.proofs.CallerCounts.{last-at_most}
+use Rattle.sc_flat.specs.declared.preparing.PrepFault.{PrepFault}
+use Rattle.sc_flat.specs.declared.preparing.PrepFault.TheVariants as fault
+use Rattle.sc_flat.specs.declared.size.Size.{Size}
+use Rattle.sc_flat.specs.Kept.{IsSizeOf, AreSizes}
+use Rattle.sc_flat.specs.Shown.{ManyWires}
+use Rattle.sc_flat.specs.Sizes.{IsSmall, size_in}
+
+same_some : {X : Type 0} (x y : X) → Some x ≡ Some y → x ≡ y
+same_some x y e = cc
+
+-- the counts of a tally are the sizes of its modules
+pub sizes_are : (tally : Tally) (modules : List Module) (sizes : List Size) → StandsFor tally modules → sizes ≡ map size_in tally.counts → AreSizes modules sizes
+sizes_are tally modules sizes stands is =
+    subst (AreSizes modules) (sym is)
+    (record {
+      count = length-map tally.counts size_in ∙ stands.len;
+      each = by;
+    })
+  where
+    by : (i : ℕ) (size : Size) → slice_get (map size_in tally.counts) i ≡ Some size → IsSizeOf modules i size
+    by i size at =
+        let within : i < length modules = omega (arith, slice_get_within (map size_in tally.counts) i size at, length-map tally.counts size_in, stands.len) in
+        let e : size ≡ size_in (counts_in tally.times (expansion modules i)) = same_some size (size_in (counts_in tally.times (expansion modules i))) (sym at ∙ slice_get-map size_in tally.counts i ∙ ap (option_map size_in) (stands.each i within)) in
+        (ap (λ (s : Size). s.gates) e, ap (λ (s : Size). s.qubits) e, ap (λ (s : Size). s.cbits) e)
+
+-- the counts of the last module, where it was read
+pub record IsLastCount (tally : Tally) (modules : List Module) (last : Counts) : Type 0 where
+  pub gates : last.gates ≡ length (gates_of modules (length modules - 1))
+  pub qubits : last.qubits ≡ (fresh_in (expansion modules (length modules - 1))).qubits
+  pub cbits : last.cbits ≡ (fresh_in (expansion modules (length modules - 1))).cbits
+
+pub last_count : (tally : Tally) (modules : List Module) → StandsFor tally modules → (n : ℕ) (d : Counts) → 0 < length modules → n ≡ length modules → IsLastCount tally modules (get_or tally.counts (n - 1) d)
+last_count tally modules stands n d some count =
+    let within : length modules - 1 < length modules = omega arith in
+    let read : get_or tally.counts (length modules - 1) d ≡ counts_in tally.times (expansion modules (length modules - 1)) =
+    get_or_from_slice_get tally.counts (length modules - 1) d _ (stands.each (length modules - 1) within) in
+    let e : get_or tally.counts (n - 1) d ≡ counts_in tally.times (expansion modules (length modules - 1)) = ap (λ k. get_or tally.counts (k - 1) d) count ∙ read in
+    record { gates = ap (λ (c : Counts). c.gates) e; qubits = ap (λ (c : Counts). c.qubits) e; cbits = ap (λ (c : Counts). c.cbits) e }
+
+-- no body counts more than the last one
+pub all_small : (tally : Tally) (modules : List Module) → IsDeck modules → IsWhole modules → StandsFor tally modules → (last : Counts) (limit : ℕ) → IsLastCount tally modules last →
+    last.gates ≤ limit → limit < 2 ^ 64 → last.qubits < 2 ^ 32 → last.cbits < 2 ^ 32 → All IsSmall tally.counts
+all_small tally modules deck whole stands last limit l gates_fit limit_fits qubits_fit cbits_fit k d below =
+    let within : k < length modules = omega (arith, stands.len) in
+    let read : get_or tally.counts k d ≡ counts_in tally.times (expansion modules k) = get_or_from_slice_get tally.counts k d (counts_in tally.times (expansion modules k)) (stands.each k within) in
+    let most = last-at_most tally.times modules deck whole k within in
+    subst IsSmall (sym read)
+    (record {
+      gates = omega (arith, most.gates, l.gates);
+      qubits = omega (arith, most.qubits, l.qubits);
+      cbits = omega (arith, most.cbits, l.cbits);
+    })
+
+-- when each refusal comes
+pub record Refusals {T : Type 0} (r : Result T PrepFault) (fresh : Numbers) (gates limit : ℕ) : Type 0 where
+  pub wires : (r ≡ Err fault.TooManyWires) ↔ ManyWires fresh
+  pub gates_too : (r ≡ Err fault.TooManyGates) ↔ ((¬ (ManyWires fresh)) × (limit < gates))
+
+wires_or_gates : {T : Type 0} (r : Result T PrepFault) → r ≡ Err fault.TooManyWires → r ≡ Err fault.TooManyGates → ⊥
+wires_or_gates r e f = cc
+
+pub refuses_wires : {T : Type 0} (r : Result T PrepFault) (fresh : Numbers) (gates limit : ℕ) → r ≡ Err fault.TooManyWires → ManyWires fresh → Refusals r fresh gates limit
+refuses_wires r fresh gates limit e many = record {
+  wires = (λ _. many, λ _. e);
+  gates_too = (λ f. absurd (wires_or_gates r e f), λ p. absurd (p.0 many));
+}
+
+not_many : (fresh : Numbers) → fresh.qubits < 2 ^ 32 → fresh.cbits < 2 ^ 32 → ManyWires fresh → ⊥
+not_many fresh q c (inl h) = omega arith
+not_many fresh q c (inr h) = omega arith
+
+pub refuses_gates : {T : Type 0} (r : Result T PrepFault) (fresh : Numbers) (gates limit : ℕ) → r ≡ Err fault.TooManyGates → fresh.qubits < 2 ^ 32 → fresh.cbits < 2 ^ 32 → limit < gates → Refusals r fresh gates limit
+refuses_gates r fresh gates limit e q c more = record {
+  wires = (λ f. absurd (wires_or_gates r f e), λ many. absurd (not_many fresh q c many));
+  gates_too = (λ _. (not_many fresh q c, more), λ _. e);
+}
+
+pub refuses_none : {T : Type 0} (r : Result T PrepFault) (fresh : Numbers) (gates limit : ℕ) → (r ≡ Err fault.TooManyWires → ⊥) → (r ≡ Err fault.TooManyGates → ⊥) → fresh.qubits < 2 ^ 32 → fresh.cbits < 2 ^ 32 →
+    gates ≤ limit → Refusals r fresh gates limit
+refuses_none r fresh gates limit not_wires not_gates q c few = record {
+  wires = (λ e. absurd (not_wires e), λ many. absurd (not_many fresh q c many));
+  gates_too = (λ e. absurd (not_gates e), λ p. absurd (let h = p.1 in omega arith));
+}
+
+-- the qubits or the classical bits of the last module
+pub many_wires : (qubits cbits : ℕ) (fresh : Numbers) → qubits ≡ fresh.qubits → cbits ≡ fresh.cbits → 2 ^ 32 ≤ max qubits cbits → ManyWires fresh
+many_wires qubits cbits fresh e f many = by (cases_lt qubits (2 ^ 32))
+  where
+    by : (qubits < 2 ^ 32) ⊎ (2 ^ 32 ≤ qubits) → ManyWires fresh
+    by (inl few) = let h : 2 ^ 32 ≤ fresh.cbits = omega arith in inr h
+    by (inr h) = let g : 2 ^ 32 ≤ fresh.qubits = omega arith in inl g
