@@ -1,10 +1,12 @@
 -- Gates that are shown and written one after another.
-use Rattle.std.proofs.Common.{◌≡◌, ℕ, ◌+◌, List, [], ◌∷◌, ◌++◌, Bool, map, refl, sym, ap, subst, ◌∙◌, append_assoc}
+use Rattle.std.proofs.Common.{◌≡◌, ℕ, ◌+◌, ◌≤◌, List, [], ◌∷◌, ◌++◌, Bool, map, refl, sym, ap, subst, ◌∙◌, append_assoc, arith}
 use Rattle.std.specs.Prelude.{flat_map, Result, Ok, Err, OnOk, OnErr}
 use Rattle.std.proofs.lemmas.List.{append-nil}
 use Rattle.std.proofs.lemmas.List.Sums.{fold_push}
 use Rattle.std.proofs.lemmas.Grind.{flat_map-append}
+use Rattle.sc_base.specs.Causes.{HasCause}
 use Rattle.sc_base.specs.Output.{Wrote, WrotePrefix}
+use Rattle.sc_base.proofs.CauseLemmas.{rose_after}
 use Rattle.sc_base.proofs.OutputLemmas.{wrote_then, wrote_as, prefix_at, prefix_more, prefix_then, prefix_whole}
 use Rattle.sc_gate.specs.declared.gate.Gate.{Gate}
 use Rattle.sc_gate.specs.Lines.{gate_line, gate_lines}
@@ -103,3 +105,8 @@ lines_at tells bytes old mid new (Err e) header left gates same head lines = tt
 pub prefix_lines : {S : Type 0} (tells : S → Bool) (bytes : S → List ℕ) (old mid new : S) (header : List ℕ) (left gates : List Gate) → left ≡ gates → Wrote tells bytes old mid header →
     WrotePrefix tells bytes mid new (gate_lines left) → WrotePrefix tells bytes old new (header ++ gate_lines gates)
 prefix_lines tells bytes old mid new header left gates same head lines = prefix_then head (subst (λ gs. WrotePrefix tells bytes mid new (gate_lines gs)) same lines)
+
+-- the cause of a call that came after others
+pub cause_after : {T E : Type 0} (before mid now : ℕ) (r : Result T E) → before ≤ mid → HasCause mid now r → HasCause before now r
+cause_after before mid now (Ok x) first cause = record { later = omega (arith, cause.later); failed = tt }
+cause_after before mid now (Err e) first cause = record { later = omega (arith, cause.later); failed = rose_after before mid now first cause.failed }

@@ -1,14 +1,15 @@
 //! The flat text and the flat gate list of a deck.
-ghost use Rattle.std.specs.Prelude.{◌≡◌, ◌-◌, ◌<◌, ◌≤◌, ◌^◌, ◌++◌, false, List, length, map, OnOk, OnErr, IfOk};
+ghost use Rattle.std.specs.Prelude.{◌≡◌, ◌-◌, ◌<◌, ◌≤◌, ◌^◌, ◌++◌, false, List, length, map, slice_index, OnOk, OnErr, IfOk};
 ghost use Rattle.sc_base.specs.Causes.{HasCause};
 ghost use Rattle.sc_base.specs.Output.{Wrote, WrotePrefix};
 ghost use Rattle.sc_gate.specs.declared.gate.Gate.{Gate};
 ghost use Rattle.sc_gate.specs.Lines.{flat_header, gate_lines};
 ghost use Rattle.sc_deck.specs.Decks.{IsDeck, IsWhole};
 ghost use Rattle.sc_deck.specs.Events.{flat, fresh_in, gates_in};
+ghost use Rattle.sc_deck.specs.Modules.{reaches_of};
 ghost use Rattle.sc_deck.specs.Unfolding.{expansion, gates_of};
 ghost use Rattle.sc_probe.specs.Rules.{folded};
-ghost use Rattle.sc_flat.specs.Kept.{AreSizes, WalkKept};
+ghost use Rattle.sc_flat.specs.Kept.{AreSizes, IsSizeOf, WalkKept};
 ghost use Rattle.sc_flat.specs.Shown.{FitsDeck, BrokeOff, BrokeLine};
 ghost use Rattle.sc_flat.specs.Walks.{rest};
 
@@ -79,16 +80,13 @@ impl Expander {
         ensures broke_off { OnErr result ((seen : List Gate) × (map state probes.new ≡ map (λ p. folded (rule p) (state p) seen) probes.old)
             × BrokeOff O.tells O.bytes out.old out.new (flat_header (fresh_in (expansion deck.now (length deck.now - 1))).qubits (fresh_in (expansion deck.now (length deck.now - 1))).cbits (length (gates_of deck.now (length deck.now - 1)))) (gates_of deck.now (length deck.now - 1)) seen) }
     {
-        let last = deck.len() - 1;
-        let size = self.sizes.as_slice()[last as usize];
-        size_has_range(size);
+        let size = begin(&mut self.walk, deck, self.sizes.as_slice());
         write_header(
             u128::from(size.qubits),
             u128::from(size.cbits),
             size.gates,
             out,
         )?;
-        self.walk.start(last);
         write_gates(&mut self.walk, deck, self.sizes.as_slice(), out, probes)
     }
 
@@ -99,9 +97,7 @@ impl Expander {
         ensures same { self.new ≡ self.old }
         ensures gates { IfOk result (λ gates. gates ≡ gates_of deck.now (length deck.now - 1)) }
     {
-        let last = deck.len() - 1;
-        size_has_range(self.sizes.as_slice()[last as usize]);
-        self.walk.start(last);
+        begin(&mut self.walk, deck, self.sizes.as_slice());
         let mut gates = Items::new(alloc);
         collect(&mut self.walk, deck, self.sizes.as_slice(), &mut gates)?;
         Ok(gates)
@@ -115,6 +111,26 @@ fn size_has_range(size: Size)
 {
     let _ = size.qubits;
     let _ = size.cbits;
+}
+
+/// Goes to the front of a whole deck, and answers how much the deck unfolds to.
+fn begin(walk: &mut Walk, deck: &Deck, sizes: &[Size]) -> Size
+    requires whole { IsWhole deck.now }
+    requires sizes { AreSizes deck.now sizes.now }
+    requires room { walk.old.wires.room ≡ slice_index (reaches_of deck.now) (length deck.now - 1) }
+    requires depth { length sizes.now ≤ walk.old.below.room }
+    ensures deck { IsDeck deck.now }
+    ensures size { IsSizeOf deck.now (length deck.now - 1) result }
+    ensures kept { WalkKept deck.now walk.new }
+    ensures gates { gates_in (rest deck.now walk.new) ≡ gates_of deck.now (length deck.now - 1) }
+    ensures room { walk.new.wires.room ≡ walk.old.wires.room }
+    ensures depth { walk.new.below.room ≡ walk.old.below.room }
+{
+    let last = deck.len() - 1;
+    let size = sizes[last as usize];
+    size_has_range(size);
+    walk.start(last);
+    size
 }
 
 /// Appends the gates that are left.
