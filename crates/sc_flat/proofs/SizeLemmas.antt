@@ -46,12 +46,13 @@ pub record IsLastCount (tally : Tally) (modules : List Module) (last : Counts) :
   pub qubits : last.qubits ≡ (fresh_in (expansion modules (length modules - 1))).qubits
   pub cbits : last.cbits ≡ (fresh_in (expansion modules (length modules - 1))).cbits
 
-pub last_count : (tally : Tally) (modules : List Module) → StandsFor tally modules → (n : ℕ) (d : Counts) → 0 < length modules → n ≡ length modules → IsLastCount tally modules (get_or tally.counts (n - 1) d)
-last_count tally modules stands n d some count =
+pub last_count : (tally : Tally) (modules : List Module) → StandsFor tally modules → (counts : List Counts) → counts ≡ tally.counts → (n : ℕ) (d : Counts) → 0 < length modules → n ≡ length modules →
+    IsLastCount tally modules (get_or counts (n - 1) d)
+last_count tally modules stands counts same n d some count =
     let within : length modules - 1 < length modules = omega arith in
     let read : get_or tally.counts (length modules - 1) d ≡ counts_in tally.times (expansion modules (length modules - 1)) =
     get_or_from_slice_get tally.counts (length modules - 1) d _ (stands.each (length modules - 1) within) in
-    let e : get_or tally.counts (n - 1) d ≡ counts_in tally.times (expansion modules (length modules - 1)) = ap (λ k. get_or tally.counts (k - 1) d) count ∙ read in
+    let e : get_or counts (n - 1) d ≡ counts_in tally.times (expansion modules (length modules - 1)) = (λ k. get_or (same k) (count k - 1) d) ∙ read in
     record { gates = ap (λ (c : Counts). c.gates) e; qubits = ap (λ (c : Counts). c.qubits) e; cbits = ap (λ (c : Counts). c.cbits) e }
 
 -- no body counts more than the last one

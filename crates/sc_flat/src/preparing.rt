@@ -1,6 +1,6 @@
 //! An expander is made once for a deck.
 ghost use Rattle.std.specs.Prelude.{◌≡◌, ◌↔◌, ◌-◌, ◌<◌, length, map, Err, IfOk, All};
-ghost use Rattle.sc_deck.specs.Decks.{IsWhole};
+ghost use Rattle.sc_deck.specs.Decks.{IsDeck, IsWhole};
 ghost use Rattle.sc_deck.specs.Events.{fresh_in};
 ghost use Rattle.sc_deck.specs.Unfolding.{expansion, gates_of};
 ghost use Rattle.sc_count.specs.Tallies.{StandsFor};
@@ -52,8 +52,7 @@ pub fn prepare(
     ensures too_many_wires { (result ≡ Err PrepFault.TooManyWires) ↔ ManyWires (fresh_in (expansion deck.now (length deck.now - 1))) }
     ensures too_many_gates { (result ≡ Err PrepFault.TooManyGates) ↔ ((¬ (ManyWires (fresh_in (expansion deck.now (length deck.now - 1))))) × (limit < length (gates_of deck.now (length deck.now - 1)))) }
 {
-    let bodies = deck.len();
-    let last = tally.counts.as_slice()[bodies as usize - 1];
+    let last = last_counts(deck, tally);
     if last.qubits.max(last.cbits) > u128::from(u32::MAX) {
         return Err(PrepFault::TooManyWires);
     }
@@ -61,6 +60,19 @@ pub fn prepare(
         return Err(PrepFault::TooManyGates);
     }
     Ok(reserve(alloc, deck, tally)?)
+}
+
+/// The counts of a whole deck.
+fn last_counts(deck: &Deck, tally: &Tally) -> Counts
+    requires whole { IsWhole deck.now }
+    requires tally { StandsFor tally.now deck.now }
+    ensures deck { IsDeck deck.now }
+    ensures gates { result.gates ≡ length (gates_of deck.now (length deck.now - 1)) }
+    ensures qubits { result.qubits ≡ (fresh_in (expansion deck.now (length deck.now - 1))).qubits }
+    ensures cbits { result.cbits ≡ (fresh_in (expansion deck.now (length deck.now - 1))).cbits }
+{
+    let last = deck.len() - 1;
+    tally.counts.as_slice()[last as usize]
 }
 
 /// Reserves what a whole deck of sizes within the types needs.
