@@ -5,7 +5,6 @@ use Rattle.std.specs.Option.{option_map}
 use Rattle.std.proofs.lemmas.Bool.{cases_lt}
 use Rattle.std.proofs.lemmas.List.{length-map}
 use Rattle.std.proofs.lemmas.Option.{slice_get_within, slice_get-map, get_or_from_slice_get}
-use Rattle.sc_gate.specs.Numbers.{Numbers}
 use Rattle.sc_deck.specs.Decks.{IsDeck, IsWhole}
 use Rattle.sc_deck.specs.Events.{fresh_in}
 use Rattle.sc_deck.specs.Modules.{Module}
@@ -40,14 +39,15 @@ sizes_are tally modules sizes stands is =
         let e : size ≡ size_in (counts_in tally.times (expansion modules i)) = same_some size (size_in (counts_in tally.times (expansion modules i))) (sym at ∙ slice_get-map size_in tally.counts i ∙ ap (option_map size_in) (stands.each i within)) in
         (ap (λ (s : Size). s.gates) e, ap (λ (s : Size). s.qubits) e, ap (λ (s : Size). s.cbits) e)
 
--- the counts of the last module, where it was read
-pub record IsLastCount (tally : Tally) (modules : List Module) (last : Counts) : Type 0 where
+-- the counts of the last module
+pub record IsLastCount (modules : List Module) (last : Counts) : Type 0 where
   pub gates : last.gates ≡ length (gates_of modules (length modules - 1))
   pub qubits : last.qubits ≡ (fresh_in (expansion modules (length modules - 1))).qubits
   pub cbits : last.cbits ≡ (fresh_in (expansion modules (length modules - 1))).cbits
 
+-- where they were read
 pub last_count : (tally : Tally) (modules : List Module) → StandsFor tally modules → (counts : List Counts) → counts ≡ tally.counts → (n : ℕ) (d : Counts) → 0 < length modules → n ≡ length modules →
-    IsLastCount tally modules (get_or counts (n - 1) d)
+    IsLastCount modules (get_or counts (n - 1) d)
 last_count tally modules stands counts same n d some count =
     let within : length modules - 1 < length modules = omega arith in
     let read : get_or tally.counts (length modules - 1) d ≡ counts_in tally.times (expansion modules (length modules - 1)) =
@@ -56,9 +56,9 @@ last_count tally modules stands counts same n d some count =
     record { gates = ap (λ (c : Counts). c.gates) e; qubits = ap (λ (c : Counts). c.qubits) e; cbits = ap (λ (c : Counts). c.cbits) e }
 
 -- no body counts more than the last one
-pub all_small : (tally : Tally) (modules : List Module) → IsDeck modules → IsWhole modules → StandsFor tally modules → (last : Counts) (limit : ℕ) → IsLastCount tally modules last →
-    last.gates ≤ limit → limit < 2 ^ 64 → last.qubits < 2 ^ 32 → last.cbits < 2 ^ 32 → All IsSmall tally.counts
-all_small tally modules deck whole stands last limit l gates_fit limit_fits qubits_fit cbits_fit k d below =
+pub all_small : (tally : Tally) (modules : List Module) → IsDeck modules → IsWhole modules → StandsFor tally modules → (last : Counts) (limit : ℕ) → IsLastCount modules last →
+    last.gates ≤ limit → limit < 2 ^ 64 → max last.qubits last.cbits < 2 ^ 32 → All IsSmall tally.counts
+all_small tally modules deck whole stands last limit l gates_fit limit_fits wires_fit k d below =
     let within : k < length modules = omega (arith, stands.len) in
     let read : get_or tally.counts k d ≡ counts_in tally.times (expansion modules k) = get_or_from_slice_get tally.counts k d (counts_in tally.times (expansion modules k)) (stands.each k within) in
     let most = last-at_most tally.times modules deck whole k within in
@@ -70,40 +70,45 @@ all_small tally modules deck whole stands last limit l gates_fit limit_fits qubi
     })
 
 -- when each refusal comes
-pub record Refusals {T : Type 0} (r : Result T PrepFault) (fresh : Numbers) (gates limit : ℕ) : Type 0 where
-  pub wires : (r ≡ Err fault.TooManyWires) ↔ ManyWires fresh
-  pub gates_too : (r ≡ Err fault.TooManyGates) ↔ ((¬ (ManyWires fresh)) × (limit < gates))
+pub record Refusals {T : Type 0} (modules : List Module) (limit : ℕ) (r : Result T PrepFault) : Type 0 where
+  pub wires : (r ≡ Err fault.TooManyWires) ↔ ManyWires (fresh_in (expansion modules (length modules - 1)))
+  pub gates : (r ≡ Err fault.TooManyGates) ↔ ((¬ (ManyWires (fresh_in (expansion modules (length modules - 1))))) × (limit < length (gates_of modules (length modules - 1))))
 
 wires_or_gates : {T : Type 0} (r : Result T PrepFault) → r ≡ Err fault.TooManyWires → r ≡ Err fault.TooManyGates → ⊥
 wires_or_gates r e f = cc
 
-pub refuses_wires : {T : Type 0} (r : Result T PrepFault) (fresh : Numbers) (gates limit : ℕ) → r ≡ Err fault.TooManyWires → ManyWires fresh → Refusals r fresh gates limit
-refuses_wires r fresh gates limit e many = record {
-  wires = (λ _. many, λ _. e);
-  gates_too = (λ f. absurd (wires_or_gates r e f), λ p. absurd (p.0 many));
-}
-
-not_many : (fresh : Numbers) → fresh.qubits < 2 ^ 32 → fresh.cbits < 2 ^ 32 → ManyWires fresh → ⊥
-not_many fresh q c (inl h) = omega arith
-not_many fresh q c (inr h) = omega arith
-
-pub refuses_gates : {T : Type 0} (r : Result T PrepFault) (fresh : Numbers) (gates limit : ℕ) → r ≡ Err fault.TooManyGates → fresh.qubits < 2 ^ 32 → fresh.cbits < 2 ^ 32 → limit < gates → Refusals r fresh gates limit
-refuses_gates r fresh gates limit e q c more = record {
-  wires = (λ f. absurd (wires_or_gates r f e), λ many. absurd (not_many fresh q c many));
-  gates_too = (λ _. (not_many fresh q c, more), λ _. e);
-}
-
-pub refuses_none : {T : Type 0} (r : Result T PrepFault) (fresh : Numbers) (gates limit : ℕ) → (r ≡ Err fault.TooManyWires → ⊥) → (r ≡ Err fault.TooManyGates → ⊥) → fresh.qubits < 2 ^ 32 → fresh.cbits < 2 ^ 32 →
-    gates ≤ limit → Refusals r fresh gates limit
-refuses_none r fresh gates limit not_wires not_gates q c few = record {
-  wires = (λ e. absurd (not_wires e), λ many. absurd (not_many fresh q c many));
-  gates_too = (λ e. absurd (not_gates e), λ p. absurd (let h = p.1 in omega arith));
-}
-
--- the qubits or the classical bits of the last module
-pub many_wires : (qubits cbits : ℕ) (fresh : Numbers) → qubits ≡ fresh.qubits → cbits ≡ fresh.cbits → 2 ^ 32 ≤ max qubits cbits → ManyWires fresh
-many_wires qubits cbits fresh e f many = by (cases_lt qubits (2 ^ 32))
+-- the qubits or the classical bits of the last module are too many, or both are few
+many_wires : (modules : List Module) (last : Counts) → IsLastCount modules last → 2 ^ 32 ≤ max last.qubits last.cbits → ManyWires (fresh_in (expansion modules (length modules - 1)))
+many_wires modules last l many = by (cases_lt last.qubits (2 ^ 32))
   where
-    by : (qubits < 2 ^ 32) ⊎ (2 ^ 32 ≤ qubits) → ManyWires fresh
-    by (inl few) = let h : 2 ^ 32 ≤ fresh.cbits = omega arith in inr h
-    by (inr h) = let g : 2 ^ 32 ≤ fresh.qubits = omega arith in inl g
+    by : (last.qubits < 2 ^ 32) ⊎ (2 ^ 32 ≤ last.qubits) → ManyWires (fresh_in (expansion modules (length modules - 1)))
+    by (inl few) = let h : 2 ^ 32 ≤ (fresh_in (expansion modules (length modules - 1))).cbits = omega (arith, l.cbits) in inr h
+    by (inr h) = let g : 2 ^ 32 ≤ (fresh_in (expansion modules (length modules - 1))).qubits = omega (arith, l.qubits) in inl g
+
+few_wires : (modules : List Module) (last : Counts) → IsLastCount modules last → max last.qubits last.cbits < 2 ^ 32 → ManyWires (fresh_in (expansion modules (length modules - 1))) → ⊥
+few_wires modules last l few (inl many) = omega (arith, l.qubits)
+few_wires modules last l few (inr many) = omega (arith, l.cbits)
+
+pub refuses_wires : {T : Type 0} (modules : List Module) (limit : ℕ) (last : Counts) (r : Result T PrepFault) → IsLastCount modules last → r ≡ Err fault.TooManyWires → 2 ^ 32 ≤ max last.qubits last.cbits → Refusals modules limit r
+refuses_wires modules limit last r l e many =
+    let too_many = many_wires modules last l many in
+    record {
+      wires = (λ _. too_many, λ _. e);
+      gates = (λ f. absurd (wires_or_gates r e f), λ p. absurd (p.0 too_many));
+    }
+
+pub refuses_gates : {T : Type 0} (modules : List Module) (limit : ℕ) (last : Counts) (r : Result T PrepFault) → IsLastCount modules last → r ≡ Err fault.TooManyGates → max last.qubits last.cbits < 2 ^ 32 → limit < last.gates →
+    Refusals modules limit r
+refuses_gates modules limit last r l e few more =
+    let passed : limit < length (gates_of modules (length modules - 1)) = omega (arith, l.gates) in
+    record {
+      wires = (λ f. absurd (wires_or_gates r f e), λ many. absurd (few_wires modules last l few many));
+      gates = (λ _. (few_wires modules last l few, passed), λ _. e);
+    }
+
+pub refuses_none : {T : Type 0} (modules : List Module) (limit : ℕ) (last : Counts) (r : Result T PrepFault) → IsLastCount modules last → (r ≡ Err fault.TooManyWires → ⊥) → (r ≡ Err fault.TooManyGates → ⊥) →
+    max last.qubits last.cbits < 2 ^ 32 → last.gates ≤ limit → Refusals modules limit r
+refuses_none modules limit last r l not_wires not_gates few fit = record {
+  wires = (λ e. absurd (not_wires e), λ many. absurd (few_wires modules last l few many));
+  gates = (λ e. absurd (not_gates e), λ p. absurd (let h = p.1 in omega (arith, l.gates)));
+}
