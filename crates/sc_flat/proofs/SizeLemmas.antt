@@ -51,7 +51,7 @@ pub last_count : (tally : Tally) (modules : List Module) → StandsFor tally mod
 last_count tally modules stands counts same n d some count =
     let within : length modules - 1 < length modules = omega arith in
     let read : get_or tally.counts (length modules - 1) d ≡ counts_in tally.times (expansion modules (length modules - 1)) =
-    get_or_from_slice_get tally.counts (length modules - 1) d _ (stands.each (length modules - 1) within) in
+    get_or_from_slice_get tally.counts (length modules - 1) _ d (stands.each (length modules - 1) within) in
     let e : get_or counts (n - 1) d ≡ counts_in tally.times (expansion modules (length modules - 1)) = (λ k. get_or (same k) (count k - 1) d) ∙ read in
     record { gates = ap (λ (c : Counts). c.gates) e; qubits = ap (λ (c : Counts). c.qubits) e; cbits = ap (λ (c : Counts). c.cbits) e }
 
@@ -60,7 +60,7 @@ pub all_small : (tally : Tally) (modules : List Module) → IsDeck modules → I
     last.gates ≤ limit → limit < 2 ^ 64 → max last.qubits last.cbits < 2 ^ 32 → All IsSmall tally.counts
 all_small tally modules deck whole stands last limit l gates_fit limit_fits wires_fit k d below =
     let within : k < length modules = omega (arith, stands.len) in
-    let read : get_or tally.counts k d ≡ counts_in tally.times (expansion modules k) = get_or_from_slice_get tally.counts k d (counts_in tally.times (expansion modules k)) (stands.each k within) in
+    let read : get_or tally.counts k d ≡ counts_in tally.times (expansion modules k) = get_or_from_slice_get tally.counts k (counts_in tally.times (expansion modules k)) d (stands.each k within) in
     let most = last-at_most tally.times modules deck whole k within in
     subst IsSmall (sym read)
     (record {
@@ -106,9 +106,25 @@ refuses_gates modules limit last r l e few more =
       gates = (λ _. (few_wires modules last l few, passed), λ _. e);
     }
 
-pub refuses_none : {T : Type 0} (modules : List Module) (limit : ℕ) (last : Counts) (r : Result T PrepFault) → IsLastCount modules last → (r ≡ Err fault.TooManyWires → ⊥) → (r ≡ Err fault.TooManyGates → ⊥) →
+refuses_none : {T : Type 0} (modules : List Module) (limit : ℕ) (last : Counts) (r : Result T PrepFault) → IsLastCount modules last → (r ≡ Err fault.TooManyWires → ⊥) → (r ≡ Err fault.TooManyGates → ⊥) →
     max last.qubits last.cbits < 2 ^ 32 → last.gates ≤ limit → Refusals modules limit r
 refuses_none modules limit last r l not_wires not_gates few fit = record {
   wires = (λ e. absurd (not_wires e), λ many. absurd (few_wires modules last l few many));
   gates = (λ e. absurd (not_gates e), λ p. absurd (let h = p.1 in omega (arith, l.gates)));
 }
+
+ok_or_err : {T : Type 0} (x : T) (f : PrepFault) → Ok x ≡ Err f → ⊥
+ok_or_err x f e = cc
+
+memory_or_wires : {T : Type 0} (r : Result T PrepFault) → r ≡ Err fault.Memory → r ≡ Err fault.TooManyWires → ⊥
+memory_or_wires r e f = cc
+
+memory_or_gates : {T : Type 0} (r : Result T PrepFault) → r ≡ Err fault.Memory → r ≡ Err fault.TooManyGates → ⊥
+memory_or_gates r e f = cc
+
+pub refuses_memory : {T : Type 0} (modules : List Module) (limit : ℕ) (last : Counts) (r : Result T PrepFault) → IsLastCount modules last → r ≡ Err fault.Memory → max last.qubits last.cbits < 2 ^ 32 → last.gates ≤ limit →
+    Refusals modules limit r
+refuses_memory modules limit last r l e few fit = refuses_none modules limit last r l (memory_or_wires r e) (memory_or_gates r e) few fit
+
+pub refuses_not : {T : Type 0} (modules : List Module) (limit : ℕ) (last : Counts) (x : T) → IsLastCount modules last → max last.qubits last.cbits < 2 ^ 32 → last.gates ≤ limit → Refusals modules limit (Ok x)
+refuses_not modules limit last x l few fit = refuses_none modules limit last (Ok x) l (ok_or_err x fault.TooManyWires) (ok_or_err x fault.TooManyGates) few fit
