@@ -39,12 +39,7 @@ impl From<Memory> for PrepFault {
 /// Reserves what the flat text of a whole deck of at most `limit` gates needs: one frame a body, and room for the wires of
 /// every chain of calls. The tally has to be that of the deck. `TooManyWires` comes exactly where the qubits or the classical
 /// bits pass 4,294,967,295, and else `TooManyGates` exactly where the gates pass `limit`.
-pub fn prepare(
-    alloc: Global,
-    deck: &Deck,
-    tally: &Tally,
-    limit: u64,
-) -> Result<Expander, PrepFault>
+pub fn prepare(alloc: Global, deck: &Deck, tally: &Tally, limit: u64) -> Result<Expander, PrepFault>
     requires whole { IsWhole deck.now }
     requires tally { StandsFor tally.now deck.now }
     ensures fits { IfOk result (λ expander. FitsDeck expander deck.now) }

@@ -16,7 +16,8 @@ use std::alloc::Global;
 use std::test::Fail;
 
 /// The flat text of the worked example.
-const TEXT: &[u8] = b"flat 1\nqbits 3\ncbits 0\ngates 8\nH q1\nH q1\nH q1\nCNOT q1,q0\nH q2\nH q2\nH q2\nCNOT q2,q0\n";
+const TEXT: &[u8] =
+    b"flat 1\nqbits 3\ncbits 0\ngates 8\nH q1\nH q1\nH q1\nCNOT q1,q0\nH q2\nH q2\nH q2\nCNOT q2,q0\n";
 
 /// A main that makes two qubits and applies two gates.
 fn body_of_two_gates(alloc: Global) -> Result<Body, Memory>
@@ -138,7 +139,13 @@ fn calls_are_written_out(rt: HostRuntime) -> Result<(), Fail> {
     assert_eq!(rt; written(rt.alloc(), &deck)?.written(), TEXT);
     assert!(rt; deck.is_whole());
     let texts = told(rt.alloc(), &deck)?;
-    let want = ["kinds H=6 CNOT=2", "burst 3 H 0", "window 0", "reach 2 7", "kinds H=6 CNOT=2"];
+    let want = [
+        "kinds H=6 CNOT=2",
+        "burst 3 H 0",
+        "window 0",
+        "reach 2 7",
+        "kinds H=6 CNOT=2",
+    ];
     assert_eq!(rt; texts.len(), 5);
     for (text, want) in texts.as_slice().iter().zip(want.iter()) {
         assert_eq!(rt; text.as_bytes(), want.as_bytes());
@@ -207,7 +214,11 @@ fn a_fault_leaves_a_prefix(rt: HostRuntime) -> Result<(), Fail> {
     let mut expander = prepared(rt.alloc(), &deck, 8)??;
     let mut none: Vec<Box<dyn Probe>> = Vec::new(rt.alloc());
     let mut small = MemSink::new(rt.alloc(), 100, 43)?;
-    assert!(rt; expander.write(&deck, &mut small, none.as_mut_slice()).is_err());
+    assert!(rt;
+        expander
+            .write(&deck, &mut small, none.as_mut_slice())
+            .is_err()
+    );
     assert!(rt; TEXT.starts_with(small.written()));
     let mut out = MemSink::new(rt.alloc(), 100, 200)?;
     assert!(rt; expander.write(&deck, &mut out, none.as_mut_slice()).is_ok());
@@ -225,10 +236,18 @@ fn a_fault_comes_at_once(rt: HostRuntime) -> Result<(), Fail> {
     probes.push(Box::new(rt.alloc(), KindsProbe::new())?)?;
     let mut third = MemSink::new(rt.alloc(), 1, 200)?;
     third.fail_at(3)?;
-    assert!(rt; expander.write(&deck, &mut third, probes.as_mut_slice()).is_err());
+    assert!(rt;
+        expander
+            .write(&deck, &mut third, probes.as_mut_slice())
+            .is_err()
+    );
     assert_eq!(rt; third.written(), b"fl".as_slice());
     let mut small = MemSink::new(rt.alloc(), 100, 60)?;
-    assert!(rt; expander.write(&deck, &mut small, probes.as_mut_slice()).is_err());
+    assert!(rt;
+        expander
+            .write(&deck, &mut small, probes.as_mut_slice())
+            .is_err()
+    );
     let text = b"flat 1\nqbits 1\ncbits 0\ngates 9223372036854775808\nH q0\nH q0\nH".as_slice();
     assert!(rt; text.starts_with(small.written()));
     for told in report_all(rt.alloc(), probes.as_slice())?.as_slice() {

@@ -56,10 +56,19 @@ returns-in_err-write_header-clause-broke_off g c =
     broke_header g.O.Sink.tells g.O.Sink.bytes c.args.out.now c.write_header.new.out _ _ _ c.args.probes.now _ _ (subst (WrotePrefix g.O.Sink.tells g.O.Sink.bytes c.args.out.now c.write_header.new.out) header c.write_header.ensures.prefix)
 
 -- the header stands
-pub write_gates-requires : goal.write_gates-requires
-write_gates-requires g c =
+pub write_gates-requires-clause-deck : goal.write_gates-requires-clause-deck
+write_gates-requires-clause-deck g c = c.begin-size.ensures.deck
+
+pub write_gates-requires-clause-kept : goal.write_gates-requires-clause-kept
+write_gates-requires-clause-kept g c = c.begin-size.ensures.kept
+
+pub write_gates-requires-clause-sizes : goal.write_gates-requires-clause-sizes
+write_gates-requires-clause-sizes g c =
     let fits = subst (λ (e : Prepared). FitsDeck e c.args.deck.now) (sym c.self.view_is) c.requires.fits in
-    record { deck = c.begin-size.ensures.deck; kept = c.begin-size.ensures.kept; sizes = subst (AreSizes c.args.deck.now) (sym c.as_slice-2.ensures) fits.sizes; open = c.write_header.ensures.open }
+    subst (AreSizes c.args.deck.now) (sym c.as_slice-2.ensures) fits.sizes
+
+pub write_gates-requires-clause-open : goal.write_gates-requires-clause-open
+write_gates-requires-clause-open g c = c.write_header.ensures.open
 
 pub invariant_of-self-2 : goal.invariant_of-self-2
 invariant_of-self-2 g c = subst (λ depth. length c.self.inside.sizes ≤ depth) (sym (c.write_gates.ensures.depth ∙ c.begin-size.ensures.depth)) c.self.invariant

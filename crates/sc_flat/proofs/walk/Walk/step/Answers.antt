@@ -282,4 +282,3 @@ returns-in-Calls c =
     let is = size_of c.args.deck.now c.args.sizes.now c.requires.sizes c.in-Calls.callee (record { gates = 0; qubits = 0; cbits = 0 }) within.0 in
     let arm = call_arm c.args.deck.now c.requires.deck c.args.self.now c.call-in-Calls.new.self (item.Calls c.in-Calls.callee c.as_slice-in-Calls.result.now c.in-Calls.turns) c.in-Calls.callee c.as_slice-in-Calls.result.now c.in-Calls.turns (get_or c.args.sizes.now c.in-Calls.callee (record { gates = 0; qubits = 0; cbits = 0 })) c.call-in-Calls.result call is c.call-in-Calls.ensures.moved c.call-in-Calls.ensures.empty c.call-in-Calls.ensures.entered in
     record { kept = arm.kept; room = arm.room; depth = arm.depth; stepped = arm.stepped }
-
