@@ -4,7 +4,7 @@ use Rattle.std.specs.Prelude.{flat_map, Result, Ok, Err, OnOk, OnErr}
 use Rattle.std.proofs.lemmas.List.{append-nil}
 use Rattle.std.proofs.lemmas.List.Sums.{fold_push}
 use Rattle.std.proofs.lemmas.Grind.{flat_map-append}
-use Rattle.sc_base.specs.Causes.{HasCause}
+use Rattle.sc_base.specs.Causes.{HasCause, Rose}
 use Rattle.sc_base.specs.Output.{Wrote, WrotePrefix}
 use Rattle.sc_base.proofs.CauseLemmas.{rose_after}
 use Rattle.sc_base.proofs.OutputLemmas.{wrote_then, wrote_as, prefix_at, prefix_more, prefix_then, prefix_whole}
@@ -110,3 +110,11 @@ prefix_lines tells bytes old mid new header left gates same head lines = prefix_
 pub cause_after : {T E : Type 0} (before mid now : ℕ) (r : Result T E) → before ≤ mid → HasCause mid now r → HasCause before now r
 cause_after before mid now (Ok x) first cause = record { later = omega (arith, cause.later); failed = tt }
 cause_after before mid now (Err e) first cause = record { later = omega (arith, cause.later); failed = rose_after before mid now first cause.failed }
+
+-- an error that is passed on, with its cause
+pub cause_as : {T E : Type 0} {before now : ℕ} (r : Result T E) (e : E) → r ≡ Err e → before ≤ now → Rose before now → HasCause before now r
+cause_as {before = before} {now = now} r e same later rose = subst (HasCause before now) (sym same) (record { later = later; failed = rose })
+
+-- what is said of an Ok alone
+pub not_ok : {T E A : Type 0} (r : Result T E) (e : E) → r ≡ Err e → OnOk r A
+not_ok {A = A} r e same = subst (λ s. OnOk s A) (sym same) tt

@@ -1,4 +1,5 @@
 use Rattle.std.proofs.Common.{◌≡◌, ◌-◌, ◌≤◌, List, length, refl, sym, ap, subst, ◌∙◌}
+use Rattle.std.proofs.lemmas.Result.{err_from_is_err_and}
 use Rattle.sc_base.specs.Output.{Wrote, WrotePrefix}
 use Rattle.sc_base.proofs.OutputLemmas.{prefix_more}
 use Rattle.sc_gate.specs.Lines.{gate_lines}
@@ -7,7 +8,7 @@ use Rattle.sc_flat.specs.declared.size.Size.{Size}
 use Rattle.sc_flat.specs.Kept.{AreSizes}
 use Rattle.sc_flat.specs.Shown.{Prepared, FitsDeck}
 use Rattle.sc_flat.proofs.BeginLemmas.{header_is}
-use Rattle.sc_flat.proofs.WriteLemmas.{broke_header, broke_lines, lines_prefix, states_at, lines_at, prefix_lines, cause_after}
+use Rattle.sc_flat.proofs.WriteLemmas.{broke_header, broke_lines, lines_prefix, states_at, lines_at, prefix_lines, cause_after, cause_as, not_ok}
 use Rattle.sc_flat.proofs.expander.Expander.write.Goals as goal
 
 pub begin-size-requires : goal.begin-size-requires
@@ -34,7 +35,9 @@ pub returns-in_err-write_header-clause-open : goal.returns-in_err-write_header-c
 returns-in_err-write_header-clause-open g c = c.write_header.ensures.open
 
 pub returns-in_err-write_header-clause-appended : goal.returns-in_err-write_header-clause-appended
-returns-in_err-write_header-clause-appended g c = tt
+returns-in_err-write_header-clause-appended g c =
+    let p = err_from_is_err_and c.from_residual.result c.from_residual.ensures.1 in
+    not_ok c.from_residual.result p.0 p.1
 
 pub returns-in_err-write_header-clause-prefix : goal.returns-in_err-write_header-clause-prefix
 returns-in_err-write_header-clause-prefix g c =
@@ -42,13 +45,17 @@ returns-in_err-write_header-clause-prefix g c =
     prefix_more (gate_lines (gates_of c.args.deck.now (length c.args.deck.now - 1))) (subst (WrotePrefix g.O.Sink.tells g.O.Sink.bytes c.args.out.now c.write_header.new.out) header c.write_header.ensures.prefix)
 
 pub returns-in_err-write_header-clause-cause : goal.returns-in_err-write_header-clause-cause
-returns-in_err-write_header-clause-cause g c = c.in_err-write_header.ensures.cause
+returns-in_err-write_header-clause-cause g c =
+    let p = err_from_is_err_and c.from_residual.result c.from_residual.ensures.1 in
+    cause_as c.from_residual.result p.0 p.1 c.write_header.ensures.cause.later c.in_err-write_header.ensures.cause.failed
 
 pub returns-in_err-write_header-clause-rules : goal.returns-in_err-write_header-clause-rules
 returns-in_err-write_header-clause-rules g c = refl
 
 pub returns-in_err-write_header-clause-states : goal.returns-in_err-write_header-clause-states
-returns-in_err-write_header-clause-states g c = tt
+returns-in_err-write_header-clause-states g c =
+    let p = err_from_is_err_and c.from_residual.result c.from_residual.ensures.1 in
+    not_ok c.from_residual.result p.0 p.1
 
 pub returns-in_err-write_header-clause-broke_off : goal.returns-in_err-write_header-clause-broke_off
 returns-in_err-write_header-clause-broke_off g c =
