@@ -112,9 +112,9 @@ cause_after before mid now (Ok x) first cause = record { later = omega (arith, c
 cause_after before mid now (Err e) first cause = record { later = omega (arith, cause.later); failed = rose_after before mid now first cause.failed }
 
 -- an error that is passed on, with its cause
-pub cause_as : {T E : Type 0} {before now : ℕ} (r : Result T E) (e : E) → r ≡ Err e → before ≤ now → Rose before now → HasCause before now r
-cause_as {before = before} {now = now} r e same later rose = subst (HasCause before now) (sym same) (record { later = later; failed = rose })
+pub cause_as : {T E : Type 0} (before now : ℕ) (r : Result T E) (e : E) → r ≡ Err e → before ≤ now → Rose before now → HasCause before now r
+cause_as before now r e same later rose = subst (HasCause before now) (sym same) (record { later = later; failed = rose })
 
 -- what is said of an Ok alone
-pub not_ok : {T E A : Type 0} (r : Result T E) (e : E) → r ≡ Err e → OnOk r A
-not_ok {A = A} r e same = subst (λ s. OnOk s A) (sym same) tt
+pub not_ok : {T E : Type 0} (A : Type 0) (r : Result T E) (e : E) → r ≡ Err e → OnOk r A
+not_ok A r e same = subst (λ s. OnOk s A) (sym same) tt

@@ -37,7 +37,7 @@ returns-in_err-write_header-clause-open g c = c.write_header.ensures.open
 pub returns-in_err-write_header-clause-appended : goal.returns-in_err-write_header-clause-appended
 returns-in_err-write_header-clause-appended g c =
     let p = err_from_is_err_and c.from_residual.result c.from_residual.ensures.1 in
-    not_ok c.from_residual.result p.0 p.1
+    not_ok _ c.from_residual.result p.0 p.1
 
 pub returns-in_err-write_header-clause-prefix : goal.returns-in_err-write_header-clause-prefix
 returns-in_err-write_header-clause-prefix g c =
@@ -47,7 +47,7 @@ returns-in_err-write_header-clause-prefix g c =
 pub returns-in_err-write_header-clause-cause : goal.returns-in_err-write_header-clause-cause
 returns-in_err-write_header-clause-cause g c =
     let p = err_from_is_err_and c.from_residual.result c.from_residual.ensures.1 in
-    cause_as c.from_residual.result p.0 p.1 c.write_header.ensures.cause.later c.in_err-write_header.ensures.cause.failed
+    cause_as (g.O.Sink.faults c.args.out.now) (g.O.Sink.faults c.write_header.new.out) c.from_residual.result p.0 p.1 c.write_header.ensures.cause.later c.in_err-write_header.ensures.cause.failed
 
 pub returns-in_err-write_header-clause-rules : goal.returns-in_err-write_header-clause-rules
 returns-in_err-write_header-clause-rules g c = refl
@@ -55,7 +55,7 @@ returns-in_err-write_header-clause-rules g c = refl
 pub returns-in_err-write_header-clause-states : goal.returns-in_err-write_header-clause-states
 returns-in_err-write_header-clause-states g c =
     let p = err_from_is_err_and c.from_residual.result c.from_residual.ensures.1 in
-    not_ok c.from_residual.result p.0 p.1
+    not_ok _ c.from_residual.result p.0 p.1
 
 pub returns-in_err-write_header-clause-broke_off : goal.returns-in_err-write_header-clause-broke_off
 returns-in_err-write_header-clause-broke_off g c =
