@@ -21,7 +21,7 @@ ghost use Rattle.sc_deck.specs.Keys.{main_key};
 
 use sc_base::{Class, Failed, List, Memory, Sink, Text};
 use sc_count::tally_deck;
-use sc_deck::{Arg, Body, Deck, Key};
+use sc_deck::{Arg, Body, Deck, Item, Key};
 use sc_flat::prepare;
 use sc_gate::{Gate, Kind, Times, Wire};
 use sc_probe::Probe;

@@ -8,7 +8,7 @@ ghost use Rattle.sc_flat.specs.Shown.{FitsDeck};
 use crate::deck::{controlled_not, deck_of_g, hadamard, key_of_g, key_of_main};
 use sc_base::{Class, List, MemSink, Memory, Text};
 use sc_count::tally_deck;
-use sc_deck::{Body, Deck};
+use sc_deck::{Body, Deck, Item};
 use sc_flat::{Expander, PrepFault, prepare};
 use sc_gate::{Times, Wire};
 use sc_probe::{BurstProbe, KindsProbe, Probe, ReachProbe, WindowProbe, report_all};
