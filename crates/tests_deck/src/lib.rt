@@ -12,6 +12,8 @@ mod counts;
 #[cfg(test)]
 mod deck;
 #[cfg(test)]
+mod flat;
+#[cfg(test)]
 mod gates;
 #[cfg(test)]
 mod hier;

@@ -1,0 +1,16 @@
+pub mod ArmLemmas
+pub mod BeginLemmas
+pub mod CallSteps
+pub mod FreshSteps
+pub mod GlueLemmas
+pub mod ItemLemmas
+pub mod KeptLemmas
+pub mod PassLemmas
+pub mod PlaceLemmas
+pub mod RunLemmas
+pub mod SizeLemmas
+pub mod StackLemmas
+pub mod StepGates
+pub mod StepLemmas
+pub mod TurnLemmas
+pub mod WriteLemmas
