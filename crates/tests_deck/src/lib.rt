@@ -14,4 +14,6 @@ mod hier;
 #[cfg(test)]
 mod read;
 #[cfg(test)]
+mod read_hier;
+#[cfg(test)]
 mod sched;

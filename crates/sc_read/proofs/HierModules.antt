@@ -1,0 +1,196 @@
+-- Modules of hierarchical texts, as they begin.
+use Rattle.std.proofs.Common.{◌≡◌, ◌≢◌, ℕ, zero, suc, ◌+◌, ◌<◌, ◌≤◌, Bool, List, [], ◌∷◌, ◌++◌, map, fold, length, get_or, slice_get, refl, sym, ap, ◌∙◌, subst, arith, inl, inr, Option, Some, None, min, All}
+use Rattle.std.specs.List.{AllByRecursion}
+use Rattle.std.specs.Option.{option_map}
+use Rattle.std.proofs.Math.Nat.{min-eq_left, min-eq_right}
+use Rattle.std.proofs.lemmas.Bool.Decides.{leb_tells}
+use Rattle.std.proofs.lemmas.Option.{slice_get_cases}
+use Rattle.sc_base.specs.declared.names.Class.{Class}
+use Rattle.sc_base.specs.declared.names.Class.TheVariants.{Q, C}
+use Rattle.sc_gate.specs.Numbers.{Numbers, no_wires, with_more, both}
+use Rattle.sc_deck.specs.declared.item.Item.{Item}
+use Rattle.sc_deck.specs.declared.item.Item.TheVariants as item
+use Rattle.sc_deck.specs.declared.key.Arg.{Arg}
+use Rattle.sc_deck.specs.declared.key.Arg.TheVariants.{Int, Double, One, Many}
+use Rattle.sc_deck.specs.declared.key.Key.{Key}
+use Rattle.sc_deck.specs.Bodies.{Contents, IsBody, after_items, wires_of}
+use Rattle.sc_base.specs.NameTexts.{IsNameText}
+use Rattle.sc_deck.specs.Decks.{IsDeck, IsNewKey, CallsFit}
+use Rattle.sc_deck.specs.Items.{after_item}
+use Rattle.sc_deck.specs.Keys.{params_of, with_arg, HasLength, HasLengths}
+use Rattle.sc_deck.specs.Modules.{Module, key_of, body_of, heights_of, greatest_called}
+use Rattle.sc_read.specs.HierLines.{IsFormedArg}
+use Rattle.sc_read.specs.HierFronts.{cut_number, cut_arg, cut_key, ReadsHeading}
+use Rattle.sc_read.specs.HierStages.{Stage, Between, Within, Limit, Instances, Wires, Items, Depth, InPlace, Passes, Goes, Breaks}
+use Rattle.sc_read.specs.HierSteps.{Begins, module_of}
+use Rattle.sc_read.proofs.HierHeading.{one_key}
+
+-- WIRES GROW
+pub more_grows : (class : Class) (n : ℕ) (wires : Numbers) → both wires + n ≡ both (with_more class n wires)
+more_grows Q n wires = omega arith
+more_grows C n wires = omega arith
+
+item_grows : (i : Item) (wires : Numbers) → both wires ≤ both (after_item wires i)
+item_grows (item.Fresh class n) wires = omega (arith, more_grows class n wires)
+item_grows (item.Gate gate) wires = omega arith
+item_grows (item.Call callee ws) wires = omega arith
+item_grows (item.Gates gate n) wires = omega arith
+item_grows (item.Calls callee ws n) wires = omega arith
+
+items_grow : (items : List Item) (wires : Numbers) → both wires ≤ both (after_items wires items)
+items_grow [] wires = omega arith
+items_grow (i ∷ items) wires = omega (arith, item_grows i wires, items_grow items (after_item wires i))
+
+arg_grows : (a : Arg) (wires : Numbers) → both wires ≤ both (with_arg wires a)
+arg_grows (Int n) wires = omega arith
+arg_grows (Double x) wires = omega arith
+arg_grows (One class) wires = omega (arith, more_grows class 1 wires)
+arg_grows (Many class n) wires = omega (arith, more_grows class n wires)
+
+args_grow : (args : List Arg) (wires : Numbers) → both wires ≤ both (fold with_arg wires args)
+args_grow [] wires = omega arith
+args_grow (a ∷ args) wires = omega (arith, arg_grows a wires, args_grow args (with_arg wires a))
+
+params_narrow : (m : Module) → IsBody (body_of m) → both (params_of m.key) ≤ 65536
+params_narrow m b = omega (arith, items_grow m.items (params_of m.key), b.narrow)
+
+-- NUMBERS OF WIRES THAT WERE KEPT
+cut_small : (n : ℕ) → n ≤ 65536 → cut_number n ≡ n
+cut_small n small = min-eq_left (omega (arith, small))
+
+pub cut_back : (n : ℕ) → cut_number n ≤ 65536 → cut_number n ≡ n
+cut_back n small = elim (leb_tells n 4294967295) [
+  | inl le ↦ min-eq_left le.1
+  | inr lt ↦ let past : cut_number n ≡ 4294967295 = min-eq_right (omega (arith, lt.1)) in absurd (omega (arith, past, small))
+]
+
+arg_small : (a : Arg) (wires : Numbers) → both (with_arg wires a) ≤ 65536 → cut_arg a ≡ a
+arg_small (Int n) wires h = refl
+arg_small (Double x) wires h = refl
+arg_small (One class) wires h = refl
+arg_small (Many class n) wires h = ap (Many class) (cut_small n (omega (arith, h, more_grows class n wires)))
+
+arg_back : (a : Arg) (wires : Numbers) → both (with_arg wires (cut_arg a)) ≤ 65536 → cut_arg a ≡ a
+arg_back (Int n) wires h = refl
+arg_back (Double x) wires h = refl
+arg_back (One class) wires h = refl
+arg_back (Many class n) wires h = ap (Many class) (cut_back n (omega (arith, h, more_grows class (cut_number n) wires)))
+
+args_small : (args : List Arg) (wires : Numbers) → both (fold with_arg wires args) ≤ 65536 → map cut_arg args ≡ args
+args_small [] wires h = refl
+args_small (a ∷ args) wires h =
+    let head = arg_small a wires (omega (arith, h, args_grow args (with_arg wires a))) in
+    let rest = args_small args (with_arg wires a) h in
+    λ i. head i ∷ rest i
+
+args_back : (args : List Arg) (wires : Numbers) → both (fold with_arg wires (map cut_arg args)) ≤ 65536 → map cut_arg args ≡ args
+args_back [] wires h = refl
+args_back (a ∷ args) wires h =
+    let head = arg_back a wires (omega (arith, h, args_grow (map cut_arg args) (with_arg wires (cut_arg a)))) in
+    let rest = args_back args (with_arg wires (cut_arg a)) h in
+    λ i. head i ∷ rest i
+
+key_small : (key : Key) → both (params_of key) ≤ 65536 → cut_key key ≡ key
+key_small key h = let args = args_small key.args no_wires h in λ i. record { name = key.name; args = args i }
+
+key_back : (key : Key) → both (params_of (cut_key key)) ≤ 65536 → cut_key key ≡ key
+key_back key h = let args = args_back key.args no_wires h in λ i. record { name = key.name; args = args i }
+
+new_true : (modules : List Module) → IsDeck modules → (kept key : Key) → kept ≡ cut_key key → IsNewKey modules kept → IsNewKey modules key
+new_true modules deck kept key kept_is new = λ k d within same.
+    let narrow = subst (λ (z : Key). both (params_of z) ≤ 65536) same (params_narrow (get_or modules k d) (deck.bodies k d within)) in
+    new k d within (same ∙ sym (kept_is ∙ key_small key narrow))
+
+old_true : (modules : List Module) → IsDeck modules → (kept key : Key) (i : ℕ) → kept ≡ cut_key key → option_map key_of (slice_get modules i) ≡ Some kept → IsNewKey modules key → ⊥
+old_true modules deck kept key i kept_is found new = elim (slice_get_cases modules i).1 [
+  | inl at ↦
+      let named : Some at.0.key ≡ Some kept = sym (ap (option_map key_of) at.2) ∙ found in
+      let same : at.0.key ≡ kept = cc in
+      let narrow = params_narrow at.0 (subst (λ (z : Module). IsBody (body_of z)) at.3 (deck.bodies i at.0 at.1)) in
+      let back = key_back key (subst (λ (z : Key). both (params_of z) ≤ 65536) (same ∙ kept_is) narrow) in
+      new i at.0 at.1 (ap key_of at.3 ∙ (same ∙ (kept_is ∙ back)))
+  | inr none ↦ let clash : None ≡ Some kept = sym (ap (option_map key_of) none.1) ∙ found in cc
+]
+
+-- A MODULE BEGINS
+pub heading_bad : (modules : List Module) (line : List ℕ) → ((kept : Key) → ReadsHeading (length modules) line kept → ⊥) →
+    (turns : Bool) (next : Stage) → InPlace (Between turns modules) line next → ⊥
+heading_bad modules line none turns next p = none (cut_key p.key) (record { key = p.key; line_is = p.line_is; formed = p.key_is.formed; kept_is = refl })
+
+pub found_bad : (modules : List Module) (line : List ℕ) (kept : Key) (i : ℕ) → IsDeck modules → ReadsHeading (length modules) line kept → option_map key_of (slice_get modules i) ≡ Some kept →
+    (turns : Bool) (next : Stage) → InPlace (Between turns modules) line next → ⊥
+found_bad modules line kept i deck r found turns next p =
+    old_true modules deck kept r.key i r.kept_is found
+    (subst (λ (z : Key). IsNewKey modules z) (one_key (length modules) line p.key r.key p.line_is r.line_is p.key_is.formed r.formed) p.key_is.new)
+
+begin_place : (modules : List Module) (line : List ℕ) (kept : Key) → IsDeck modules → (r : ReadsHeading (length modules) line kept) → IsNewKey modules kept →
+    (turns : Bool) → InPlace (Between turns modules) line (Within turns modules (record { key = r.key; items = [] }))
+begin_place modules line kept deck r new turns = record {
+  key = r.key;
+  key_is = record { formed = r.formed; new = new_true modules deck kept r.key r.kept_is new };
+  line_is = r.line_is;
+  next_is = refl;
+}
+
+pub begin_many : (modules : List Module) (line : List ℕ) (kept : Key) → IsDeck modules → ReadsHeading (length modules) line kept → IsNewKey modules kept → 65536 ≤ length modules →
+    (turns : Bool) → Breaks (Between turns modules) line Instances
+begin_many modules line kept deck r new many turns = record {
+  next = Within turns modules (record { key = r.key; items = [] });
+  in_place = begin_place modules line kept deck r new turns;
+  passes = many;
+}
+
+pub begin_wide : (modules : List Module) (line : List ℕ) (kept : Key) → IsDeck modules → ReadsHeading (length modules) line kept → IsNewKey modules kept → length modules < 65536 →
+    65536 < both (params_of kept) → (turns : Bool) → Breaks (Between turns modules) line Wires
+begin_wide modules line kept deck r new few wide turns = record {
+  next = Within turns modules (record { key = r.key; items = [] });
+  in_place = begin_place modules line kept deck r new turns;
+  passes = (true_wide, λ many. omega (arith, few, many));
+}
+  where
+    true_wide : 65536 < both (params_of r.key)
+    true_wide = elim (leb_tells (both (params_of r.key)) 65536) [
+      | inl le ↦ let same : kept ≡ r.key = r.kept_is ∙ key_small r.key le.1 in
+          absurd (omega (arith, wide, le.1, ap (λ (z : Key). both (params_of z)) same))
+      | inr lt ↦ lt.1
+    ]
+
+lengths_at : (a : Arg) (args : List Arg) → HasLength a → HasLengths (record { name = []; args = args }) → (k : ℕ) (d : Arg) → k < length (a ∷ args) → HasLength (get_or (a ∷ args) k d)
+lengths_at a args here rest zero d within = here
+lengths_at a args here rest (suc k) d within = rest k d (omega (arith, within))
+
+lengths_all : (args : List Arg) → AllByRecursion IsFormedArg args → All HasLength args
+lengths_all [] formed = λ k d within. absurd (omega (arith, within))
+lengths_all (a ∷ args) formed = lengths_at a args formed.0.has_length (lengths_all args formed.1)
+
+pub begin_goes : (modules : List Module) (line : List ℕ) (kept : Key) (body : Contents) → IsDeck modules → ReadsHeading (length modules) line kept → IsNewKey modules kept → length modules < 65536 →
+    both (params_of kept) ≤ 65536 → body.params ≡ params_of kept → body.items ≡ [] → Begins modules line kept body
+begin_goes modules line kept body deck r new few narrow params empty = record {
+  goes = λ turns. record {
+    in_place = subst (λ (z : Module). InPlace (Between turns modules) line (Within turns modules z)) same_module (begin_place modules line kept deck r new turns);
+    within = subst (λ (z : Module). (limit : Limit) → Passes (Within turns modules z) limit → ⊥) same_module (no_limit turns);
+  };
+  params = params;
+  empty = empty;
+  new = new;
+  lengths = subst HasLengths (sym same) (lengths_all r.key.args r.formed.args);
+  name = subst (λ (z : Key). IsNameText z.name) (sym same) r.formed.name;
+  begun = record {
+    room = few;
+    calls = subst (λ (z : List Item). CallsFit modules z) (sym empty) tt;
+    short = omega (arith, ap length empty);
+    shallow = subst (λ (z : List Item). greatest_called (heights_of modules) z < 256) (sym empty) (omega arith);
+  };
+}
+  where
+    same : kept ≡ r.key
+    same = r.kept_is ∙ key_back r.key (subst (λ (z : Key). both (params_of z) ≤ 65536) r.kept_is narrow)
+    same_module : record { key = r.key; items = [] } ≡ module_of kept body
+    same_module = λ i. record { key = (sym same) i; items = (sym empty) i }
+    true_narrow : both (params_of r.key) ≤ 65536
+    true_narrow = subst (λ (z : Key). both (params_of z) ≤ 65536) same narrow
+    no_limit : (turns : Bool) (limit : Limit) → Passes (Within turns modules (record { key = r.key; items = [] })) limit → ⊥
+    no_limit turns Instances p = omega (arith, p, few)
+    no_limit turns Wires p = omega (arith, p, true_narrow)
+    no_limit turns Items p = omega (arith, p)
+    no_limit turns Depth p = omega (arith, p)
