@@ -66,12 +66,12 @@ line_kept (item.Call callee ws) = refl
 line_kept (item.Gates gate n) = refl
 line_kept (item.Calls callee ws n) = refl
 
--- one more item called
-called_push : (heights : List ℕ) (items : List Item) (i : Item) → greatest_called heights (items ++ i ∷ []) ≡ max (greatest_called heights items) (greatest_called heights (i ∷ []))
-called_push heights items i =
-    ap (λ (z : List ℕ). greatest (map (slice_index heights) z)) (filter_map-append callee_of items (i ∷ []))
-    ∙ (ap greatest (map-append (slice_index heights) (callees_of items) (callees_of (i ∷ [])))
-    ∙ greatest-append (map (slice_index heights) (callees_of items)) (map (slice_index heights) (callees_of (i ∷ []))))
+-- the greatest height that items and others call
+pub called_join : (heights : List ℕ) (items others : List Item) → greatest_called heights (items ++ others) ≡ max (greatest_called heights items) (greatest_called heights others)
+called_join heights items others =
+    ap (λ (z : List ℕ). greatest (map (slice_index heights) z)) (filter_map-append callee_of items others)
+    ∙ (ap greatest (map-append (slice_index heights) (callees_of items) (callees_of others))
+    ∙ greatest-append (map (slice_index heights) (callees_of items)) (map (slice_index heights) (callees_of others)))
 
 calls_push : (modules : List Module) (items : List Item) (i : Item) → CallsFit modules items → ItemCallFits modules i → CallsFit modules (items ++ i ∷ [])
 calls_push modules [] i all here = (here, tt)
@@ -102,7 +102,7 @@ unfolding with_more_items
 within_limits turns modules key body i same begun fits Instances p = omega (arith, p, begun.room)
 within_limits turns modules key body i same begun fits Wires p = omega (arith, p, fits.narrow, ap both (wires_pushed key body i same))
 within_limits turns modules key body i same begun fits Items p = omega (arith, p, fits.short, length-append body.items (i ∷ []))
-within_limits turns modules key body i same begun fits Depth p = omega (arith, p, fits.shallow, begun.shallow, called_push (heights_of modules) body.items i)
+within_limits turns modules key body i same begun fits Depth p = omega (arith, p, fits.shallow, begun.shallow, called_join (heights_of modules) body.items (i ∷ []))
 
 pub item_goes : (turns : Bool) (modules : List Module) (was now : Contents) (line : List ℕ) (kept : ItemLine) → IsBegun modules was → ReadsItem turns modules (wires_of was) line kept →
     IsWithinLimit modules was (kept_item kept) → now ≡ with_item was (kept_item kept) → GoesOn turns modules was line now
@@ -118,7 +118,7 @@ item_goes turns modules was now line kept begun r fits now_is =
         room = begun.room;
         calls = calls_push modules was.items r.item begun.calls r.item_is.call;
         short = omega (arith, true_fits.short, length-append was.items (r.item ∷ []));
-        shallow = omega (arith, true_fits.shallow, begun.shallow, called_push (heights_of modules) was.items r.item);
+        shallow = omega (arith, true_fits.shallow, begun.shallow, called_join (heights_of modules) was.items (r.item ∷ []));
       };
     })
   where
@@ -167,6 +167,6 @@ limit_passed turns modules body line kept number (TooDeep n) begun r p key same 
     (p.0, record {
       next = Within turns modules (with_more_items key body r.item);
       in_place = adds_item turns modules key body line kept same r;
-      passes = (omega (arith, deep, called_push (heights_of modules) body.items r.item), (λ q. omega (arith, q, begun.room)),
+      passes = (omega (arith, deep, called_join (heights_of modules) body.items (r.item ∷ [])), (λ q. omega (arith, q, begun.room)),
           (λ q. omega (arith, q, narrow, ap both (wires_pushed key body r.item same))), (λ q. omega (arith, q, p.2, length-append body.items (r.item ∷ []))));
     })

@@ -45,7 +45,7 @@ pub no_fresh_word : (line : List ℕ) → ((more : List ℕ) → line ≡ codes 
 no_fresh_word line q c Q rest is = q rest is
 no_fresh_word line q c C rest is = c rest is
 
-fresh_one_way : (class other : Class) (line rest more : List ℕ) → line ≡ fresh_word class ++ codes " " ++ rest → line ≡ fresh_word other ++ codes " " ++ more →
+pub fresh_one_way : (class other : Class) (line rest more : List ℕ) → line ≡ fresh_word class ++ codes " " ++ rest → line ≡ fresh_word other ++ codes " " ++ more →
     (class ≡ other) × (rest ≡ more)
 fresh_one_way Q Q line rest more p q = (refl, append_cancel (codes "qbit ") rest more (sym p ∙ q))
 fresh_one_way C C line rest more p q = (refl, append_cancel (codes "cbit ") rest more (sym p ∙ q))
@@ -114,7 +114,7 @@ turns_read line after_word after rest turns first second third =
     ∙ (sym (append_assoc (codes "repeat ") (decimal turns) (32 ∷ rest)) ∙ sym (append_assoc (codes "repeat " ++ decimal turns) (codes " ") rest)))
 
 -- GATES
-gate_begins : (g : Gate) → (more : List ℕ) × (gate_line g ≡ first_byte (name_of g.kind) ∷ more)
+pub gate_begins : (g : Gate) → (more : List ℕ) × (gate_line g ≡ first_byte (name_of g.kind) ∷ more)
 gate_begins g =
     let first = first_is (name_of g.kind) _ in
     (first.0, sym (append-nil (gate_line g)) ∙ (line_in_parts g [] ∙ first.1))
@@ -126,7 +126,7 @@ not_gate g c more large is =
     let same : first_byte (name_of g.kind) ≡ c = head_is (first_byte (name_of g.kind)) c first.0 more (sym first.1 ∙ is) in
     omega (arith, same, large, first_small (name_of g.kind))
 
-there_numbered : (q c : ℕ) (ws : List Wire) → q < 2 ^ 32 → c < 2 ^ 32 → AreThere (counts q c) ws → AllByRecursion IsNumbered ws
+pub there_numbered : (q c : ℕ) (ws : List Wire) → q < 2 ^ 32 → c < 2 ^ 32 → AreThere (counts q c) ws → AllByRecursion IsNumbered ws
 there_numbered q c [] a b there = tt
 there_numbered q c (w ∷ ws) a b there = (wire_numbered q c w a b there.0, there_numbered q c ws a b there.1)
 
@@ -171,10 +171,10 @@ pub record OperandsRead (q c : ℕ) (bytes rest : List ℕ) (ws : List Wire) : T
   pub only : (vs : List Wire) → AreThere (counts q c) vs → bytes ≡ wires_text vs ++ codes "\n" →
       (us : List Wire) × (vs ≡ ws ++ us) × AreThere (counts q c) us × (rest ≡ after_commas (map wire_text us) ++ codes "\n")
 
-wires_parts : (w : Wire) (ws : List Wire) (x : List ℕ) → wires_text (w ∷ ws) ++ x ≡ 32 ∷ (wire_text w ++ (after_commas (map wire_text ws) ++ x))
+pub wires_parts : (w : Wire) (ws : List Wire) (x : List ℕ) → wires_text (w ∷ ws) ++ x ≡ 32 ∷ (wire_text w ++ (after_commas (map wire_text ws) ++ x))
 wires_parts w ws x = ap (λ (t : List ℕ). 32 ∷ t) (ap (λ (t : List ℕ). t ++ x) (joined_by_commas (wire_text w) (map wire_text ws)) ∙ append_assoc (wire_text w) (after_commas (map wire_text ws)) x)
 
-operands_end : (us : List Wire) → EndsNumber (after_commas (map wire_text us) ++ codes "\n")
+pub operands_end : (us : List Wire) → EndsNumber (after_commas (map wire_text us) ++ codes "\n")
 operands_end [] = refl
 operands_end (u ∷ us) = refl
 
@@ -256,7 +256,7 @@ call_of_step : (modules : List Module) (wires : Numbers) (call : List ℕ) (step
 call_of_step modules wires call (Apply g) p = absurd (not_gate g 99 (codes "all " ++ call) (omega arith) (sym p.text_is))
 call_of_step modules wires call (Enter callee ws) p = record { callee = callee; operands = ws; call_is = call_behind call callee ws p.text_is; fits = p.fits; known = p.call }
 
-call_ends : (ws : List Wire) → EndsNumber (wires_text ws ++ codes "\n")
+pub call_ends : (ws : List Wire) → EndsNumber (wires_text ws ++ codes "\n")
 call_ends [] = refl
 call_ends (w ∷ ws) = refl
 

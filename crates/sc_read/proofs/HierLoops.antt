@@ -2,7 +2,7 @@
 use Rattle.std.proofs.Common.{◌≡◌, ◌≢◌, ℕ, zero, suc, get_or, inl, inr, All, ◌+◌, ◌<◌, ◌≤◌, ◌^◌, Bool, true, false, List, [], ◌∷◌, ◌++◌, length, refl, sym, ap, ◌∙◌, subst, arith, append_assoc, append-nil, length-append}
 use Rattle.std.specs.Prelude.{codes}
 use Rattle.std.proofs.lemmas.List.Concat.{flat_map-append}
-use Rattle.std.proofs.lemmas.List.Elements.{All-append}
+use Rattle.std.proofs.lemmas.List.Elements.{All-push}
 use Rattle.sc_base.specs.Lines.{IsLine, joined, GoThrough, ReadTo, IsReadWhole, IsFirstBad, IsFirstBreak}
 use Rattle.sc_base.proofs.TextLines.{read_nothing, read_more, read_whole, bad_line, bad_end}
 use Rattle.sc_base.proofs.FeedLemmas.{line_from, no_feed_from_test, number_line-IsLine}
@@ -18,7 +18,8 @@ use Rattle.sc_deck.specs.declared.item.Item.TheVariants as item
 use Rattle.sc_deck.specs.Decks.{IsWhole}
 use Rattle.sc_deck.specs.Hierarchical.{IsSound}
 use Rattle.sc_deck.specs.Keys.{params_of, main_key}
-use Rattle.sc_deck.specs.Modules.{Module, from_earlier, heights_of, height_over}
+use Rattle.sc_deck.specs.Modules.{Module, heights_of, height_over}
+use Rattle.sc_deck.proofs.EarlierLemmas.{from_earlier-push}
 use Rattle.sc_read.specs.declared.hier.HierFault.{HierFault}
 use Rattle.sc_read.specs.declared.hier.HierFault.TheVariants.{BadQasm, TooWide, TooLong, TooDeep, TooManyInstances, Memory}
 use Rattle.sc_read.specs.HierLines.{ItemText}
@@ -27,7 +28,7 @@ use Rattle.sc_read.specs.HierSteps.{IsBegun, IsLineFault, IsFaultFrom, IsSoundSo
 use Rattle.sc_read.proofs.HierItems.{not_gate}
 
 -- LINES BEHIND LINES
-go_then : (from : Stage) (lines : List (List ℕ)) (stage : Stage) (more : List (List ℕ)) (to : Stage) → GoThrough Goes from lines stage → GoThrough Goes stage more to → GoThrough Goes from (lines ++ more) to
+pub go_then : (from : Stage) (lines : List (List ℕ)) (stage : Stage) (more : List (List ℕ)) (to : Stage) → GoThrough Goes from lines stage → GoThrough Goes stage more to → GoThrough Goes from (lines ++ more) to
 go_then from [] stage more to p q = subst (λ (z : Stage). GoThrough Goes z more to) (sym p) q
 go_then from (line ∷ lines) stage more to p q = (p.0, p.1, p.2, go_then p.0 lines stage more to p.3 q)
 
@@ -147,7 +148,7 @@ items_end turns modules was now text rest first number p none key same =
     bad_end Goes Breaks MayEnd (Within turns modules (module_of key was)) text first (Within turns modules (module_of key now)) rest number (p.reads key same) none (λ end empty. end)
 
 -- THE MODULES
-end_is_line : IsLine (codes "end\n")
+pub end_is_line : IsLine (codes "end\n")
 end_is_line = line_from (codes "end") (no_feed_from_test (codes "end") refl)
 
 one_line_read : (stage : Stage) (line more : List ℕ) (number after : ℕ) (next : Stage) → IsLine line → Goes stage line next → after ≡ number + 1 → ReadTo Goes stage (line ++ more) number next more after
@@ -175,26 +176,13 @@ module_fault turns deck line rest number after key was fault is b step bad =
     fault_then (Between turns deck) (line ++ rest) number (Within turns deck (module_of key was)) rest after fault
     (one_line_read (Between turns deck) line rest number after (Within turns deck (module_of key was)) is (b.goes turns) step) bad
 
--- a value more for a module more
-from_earlier-push : {A : Type 0} (f : List A → Module → A) (done : List A) (modules : List Module) (m : Module) →
-    from_earlier f done (modules ++ m ∷ []) ≡ from_earlier f done modules ++ f (from_earlier f done modules) m ∷ []
-from_earlier-push f done [] m = refl
-from_earlier-push f done (n ∷ modules) m = from_earlier-push f (done ++ f done n ∷ []) modules m
-
-all_one : {X : Type 0} (P : X → Type 0) (x : X) → P x → All P (x ∷ [])
-all_one {X} P x here = at
-  where
-    at : (k : ℕ) (d : X) → k < length (x ∷ []) → P (get_or (x ∷ []) k d)
-    at zero d within = here
-    at (suc k) d within = absurd (omega (arith, within))
-
 pub sound_more : (modules : List Module) (m : Module) → IsSoundSoFar modules → IsNameText m.key.name → length m.items ≤ 1048576 → height_over (heights_of modules) m ≤ 256 →
     IsSoundSoFar (modules ++ m ∷ [])
 sound_more modules m p name short shallow = record {
-  names = All-append (λ (n : Module). IsNameText n.key.name) modules (m ∷ []) p.names (all_one (λ (n : Module). IsNameText n.key.name) m name);
+  names = All-push (λ (n : Module). IsNameText n.key.name) modules m p.names name;
   shallow = subst (λ (z : List ℕ). All (λ height. height ≤ 256) z) (sym (from_earlier-push height_over [] modules m))
-      (All-append (λ (height : ℕ). height ≤ 256) (heights_of modules) (height_over (heights_of modules) m ∷ []) p.shallow (all_one (λ (height : ℕ). height ≤ 256) (height_over (heights_of modules) m) shallow));
-  short = All-append (λ (n : Module). length n.items ≤ 1048576) modules (m ∷ []) p.short (all_one (λ (n : Module). length n.items ≤ 1048576) m short);
+      (All-push (λ (height : ℕ). height ≤ 256) (heights_of modules) (height_over (heights_of modules) m) p.shallow shallow);
+  short = All-push (λ (n : Module). length n.items ≤ 1048576) modules m p.short short;
 }
 
 -- so far modules were read, and the next line begins one more
@@ -210,13 +198,13 @@ modules_begin turns text first = record {
   bound = omega arith;
 }
 
-no_limit_between : (turns : Bool) (modules : List Module) (limit : Limit) → Passes (Between turns modules) limit → ⊥
+pub no_limit_between : (turns : Bool) (modules : List Module) (limit : Limit) → Passes (Between turns modules) limit → ⊥
 no_limit_between turns modules Instances p = p
 no_limit_between turns modules Wires p = p
 no_limit_between turns modules Items p = p
 no_limit_between turns modules Depth p = p
 
-no_limit_over : (modules : List Module) (limit : Limit) → Passes (Over modules) limit → ⊥
+pub no_limit_over : (modules : List Module) (limit : Limit) → Passes (Over modules) limit → ⊥
 no_limit_over modules Instances p = p
 no_limit_over modules Wires p = p
 no_limit_over modules Items p = p
@@ -281,7 +269,7 @@ modules_fault turns text first modules rest number line more fault p there bad =
     (subst (λ (z : List ℕ). ReadTo Goes (Between turns []) text first (Between turns modules) z number) there p.reads) bad
 
 -- the line `end` is no line of an item
-no_item_end : (i : Item) → ItemText i (codes "end\n") → ⊥
+pub no_item_end : (i : Item) → ItemText i (codes "end\n") → ⊥
 no_item_end (item.Fresh Q n) p = absurd (let clash : 101 ≡ 113 = head_is 101 113 (codes "nd\n") (codes "bit " ++ p.digits ++ codes "\n") p.line_is in omega (arith, clash))
 no_item_end (item.Fresh C n) p = absurd (let clash : 101 ≡ 99 = head_is 101 99 (codes "nd\n") (codes "bit " ++ p.digits ++ codes "\n") p.line_is in omega (arith, clash))
 no_item_end (item.Gate g) p = not_gate g 101 (codes "nd\n") (omega arith) (sym p)
@@ -317,11 +305,11 @@ modules_behind turns text first modules rest number now line before after m p th
 }
 
 -- THE FIRST LINE
-version_small : (turns : Bool) → version_of turns < 2 ^ 64
+pub version_small : (turns : Bool) → version_of turns < 2 ^ 64
 version_small false = omega arith
 version_small true = omega arith
 
-title_is_line : (turns : Bool) → IsLine (number_line (codes "hier") (version_of turns))
+pub title_is_line : (turns : Bool) → IsLine (number_line (codes "hier") (version_of turns))
 title_is_line turns = number_line-IsLine (codes "hier") (version_of turns) (version_small turns) (no_feed_from_test (codes "hier") refl)
 
 pub title_read : (text rest : List ℕ) (turns : Bool) → text ≡ number_line (codes "hier") (version_of turns) ++ rest → ReadTo Goes Title text 1 (Between turns []) rest 2

@@ -30,14 +30,14 @@ pub more_grows : (class : Class) (n : ℕ) (wires : Numbers) → both wires + n 
 more_grows Q n wires = omega arith
 more_grows C n wires = omega arith
 
-item_grows : (i : Item) (wires : Numbers) → both wires ≤ both (after_item wires i)
+pub item_grows : (i : Item) (wires : Numbers) → both wires ≤ both (after_item wires i)
 item_grows (item.Fresh class n) wires = omega (arith, more_grows class n wires)
 item_grows (item.Gate gate) wires = omega arith
 item_grows (item.Call callee ws) wires = omega arith
 item_grows (item.Gates gate n) wires = omega arith
 item_grows (item.Calls callee ws n) wires = omega arith
 
-items_grow : (items : List Item) (wires : Numbers) → both wires ≤ both (after_items wires items)
+pub items_grow : (items : List Item) (wires : Numbers) → both wires ≤ both (after_items wires items)
 items_grow [] wires = omega arith
 items_grow (i ∷ items) wires = omega (arith, item_grows i wires, items_grow items (after_item wires i))
 
@@ -47,7 +47,7 @@ arg_grows (Double x) wires = omega arith
 arg_grows (One class) wires = omega (arith, more_grows class 1 wires)
 arg_grows (Many class n) wires = omega (arith, more_grows class n wires)
 
-args_grow : (args : List Arg) (wires : Numbers) → both wires ≤ both (fold with_arg wires args)
+pub args_grow : (args : List Arg) (wires : Numbers) → both wires ≤ both (fold with_arg wires args)
 args_grow [] wires = omega arith
 args_grow (a ∷ args) wires = omega (arith, arg_grows a wires, args_grow args (with_arg wires a))
 
