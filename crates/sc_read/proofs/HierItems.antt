@@ -260,7 +260,7 @@ pub call_ends : (ws : List Wire) → EndsNumber (wires_text ws ++ codes "\n")
 call_ends [] = refl
 call_ends (w ∷ ws) = refl
 
-known_small : (modules : List Module) (callee : ℕ) (ws : List Wire) → length modules ≤ 65536 → CallFits modules callee ws → callee < 2 ^ 64
+pub known_small : (modules : List Module) (callee : ℕ) (ws : List Wire) → length modules ≤ 65536 → CallFits modules callee ws → callee < 2 ^ 64
 known_small modules callee ws few known = omega (arith, few, callee_there (λ (m : Module). map class_of ws ≡ param_classes m.key) modules callee known)
 
 pub no_call-number : (modules : List Module) (wires : Numbers) (call : List ℕ) → length modules ≤ 65536 →
@@ -358,11 +358,16 @@ repeat_or_once modules wires line rest n is (Apply g) p = not_gate g 114 (codes 
 repeat_or_once modules wires line rest n is (Enter callee ws) p =
     let clash : 99 ≡ 114 = head_is 99 114 (codes "all " ++ decimal callee ++ wires_text ws ++ codes "\n") (codes "epeat " ++ decimal n ++ codes " " ++ rest) (sym p.text_is ∙ is) in omega (arith, clash)
 
-pub one_repeat : (line rest more : List ℕ) (m n : ℕ) → m < 2 ^ 64 → n < 2 ^ 64 → line ≡ repeat_line m rest → line ≡ repeat_line n more → rest ≡ more
-one_repeat line rest more m n small few p q =
-    let behind = behind_repeat line (decimal m ++ 32 ∷ rest) m rest (p ∙ (append_assoc (codes "repeat " ++ decimal m) (codes " ") rest ∙ append_assoc (codes "repeat ") (decimal m) (32 ∷ rest))) p in
+repeats_one_way : (line rest more : List ℕ) (m n : ℕ) → m < 2 ^ 64 → n < 2 ^ 64 → line ≡ repeat_line m rest → line ≡ repeat_line n more → (m ≡ n) × (32 ∷ rest ≡ 32 ∷ more)
+repeats_one_way line rest more m n small few p q =
     let other = behind_repeat line (decimal m ++ 32 ∷ rest) n more (p ∙ (append_assoc (codes "repeat " ++ decimal m) (codes " ") rest ∙ append_assoc (codes "repeat ") (decimal m) (32 ∷ rest))) q in
-    tail_is 32 32 rest more (number_unique m n (32 ∷ rest) (32 ∷ more) small few refl refl other).1
+    number_unique m n (32 ∷ rest) (32 ∷ more) small few refl refl other
+
+pub one_repeat : (line rest more : List ℕ) (m n : ℕ) → m < 2 ^ 64 → n < 2 ^ 64 → line ≡ repeat_line m rest → line ≡ repeat_line n more → rest ≡ more
+one_repeat line rest more m n small few p q = tail_is 32 32 rest more (repeats_one_way line rest more m n small few p q).1
+
+pub repeat_turns : (line rest more : List ℕ) (m n : ℕ) → m < 2 ^ 64 → n < 2 ^ 64 → line ≡ repeat_line m rest → line ≡ repeat_line n more → m ≡ n
+repeat_turns line rest more m n small few p q = (repeats_one_way line rest more m n small few p q).0
 
 -- REPEATED OPERANDS
 pub some_repeat : (r : Option ℕ) (ws : List Wire) → is_some r ≡ true → IfSome r (λ i. StandsEarlier ws i) → AreDistinct ws → ⊥

@@ -1,5 +1,5 @@
 -- Modules of hierarchical texts, as they begin.
-use Rattle.std.proofs.Common.{◌≡◌, ◌≢◌, ℕ, zero, suc, ◌+◌, ◌<◌, ◌≤◌, Bool, List, [], ◌∷◌, ◌++◌, map, fold, length, get_or, slice_get, refl, sym, ap, ◌∙◌, subst, arith, inl, inr, Option, Some, None, min, All}
+use Rattle.std.proofs.Common.{◌≡◌, ◌≢◌, ℕ, zero, suc, ◌+◌, ◌-◌, ◌<◌, ◌≤◌, Bool, List, [], ◌∷◌, ◌++◌, map, fold, length, get_or, slice_get, refl, sym, ap, ◌∙◌, subst, arith, inl, inr, Option, Some, None, min, All, length-append}
 use Rattle.std.specs.List.{AllByRecursion}
 use Rattle.std.specs.Option.{option_map}
 use Rattle.std.proofs.Math.Nat.{min-eq_left, min-eq_right}
@@ -17,12 +17,12 @@ use Rattle.sc_deck.specs.Bodies.{Contents, IsBody, after_items, wires_of}
 use Rattle.sc_base.specs.NameTexts.{IsNameText}
 use Rattle.sc_deck.specs.Decks.{IsDeck, IsNewKey, CallsFit}
 use Rattle.sc_deck.specs.Items.{after_item}
-use Rattle.sc_deck.specs.Keys.{params_of, with_arg, HasLength, HasLengths}
+use Rattle.sc_deck.specs.Keys.{params_of, with_arg, HasLength, HasLengths, main_key}
 use Rattle.sc_deck.specs.Modules.{Module, key_of, body_of, heights_of, greatest_called}
 use Rattle.sc_read.specs.HierLines.{IsFormedArg}
 use Rattle.sc_read.specs.HierFronts.{cut_number, cut_arg, cut_key, ReadsHeading}
 use Rattle.sc_read.specs.HierStages.{Stage, Between, Within, Limit, Instances, Wires, Items, Depth, InPlace, Passes, Goes, Breaks}
-use Rattle.sc_read.specs.HierSteps.{Begins, module_of}
+use Rattle.sc_read.specs.HierSteps.{Begins, EndsWithMain, module_of}
 use Rattle.sc_read.proofs.HierHeading.{one_key}
 
 -- WIRES GROW
@@ -194,3 +194,20 @@ begin_goes modules line kept body deck r new few narrow params empty = record {
     no_limit turns Wires p = omega (arith, p, true_narrow)
     no_limit turns Items p = omega (arith, p)
     no_limit turns Depth p = omega (arith, p)
+
+-- THE LAST MODULE
+get_last : (modules : List Module) (m : Module) → slice_get (modules ++ m ∷ []) (length modules) ≡ Some m
+get_last [] m = refl
+get_last (n ∷ modules) m = get_last modules m
+
+last_there : (modules : List Module) (m : Module) → slice_get (modules ++ m ∷ []) (length (modules ++ m ∷ []) - 1) ≡ Some m
+last_there modules m = ap (slice_get (modules ++ m ∷ [])) (omega (arith, length-append modules (m ∷ []))) ∙ get_last modules m
+
+same_key : (k l : Key) → Some k ≡ Some l → k ≡ l
+same_key k l same = cc
+
+pub main_last_key : (modules : List Module) (m : Module) → EndsWithMain (modules ++ m ∷ []) → m.key ≡ main_key
+main_last_key modules m last = same_key m.key main_key (sym (ap (option_map key_of) (last_there modules m)) ∙ last)
+
+pub last_main_key : (modules : List Module) (m : Module) → m.key ≡ main_key → EndsWithMain (modules ++ m ∷ [])
+last_main_key modules m main = ap (option_map key_of) (last_there modules m) ∙ ap Some main

@@ -36,7 +36,7 @@ use Rattle.sc_read.specs.HierStages.{Stage, Title, version_of, Between, Within, 
 use Rattle.sc_read.proofs.GateParts.{one_wire, one_next_wire}
 use Rattle.sc_read.proofs.HierHeading.{one_key}
 use Rattle.sc_read.proofs.HierItems.{fresh_one_way, not_gate, there_numbered, wires_parts, operands_end, call_ends, known_small, one_repeat, repeat_turns}
-use Rattle.sc_read.proofs.HierLoops.{no_item_end, no_limit_between, no_limit_over}
+use Rattle.sc_read.proofs.HierLoops.{no_item_end, no_limit_between, no_limit_over, version_small}
 use Rattle.sc_read.proofs.HierModules.{item_grows, main_last_key}
 
 -- OPERANDS
@@ -170,10 +170,6 @@ same_version true true e = refl
 same_version false true e = absurd (omega (arith, e))
 same_version true false e = absurd (omega (arith, e))
 
-small_version : (t : Bool) → version_of t < 2 ^ 64
-small_version false = omega arith
-small_version true = omega arith
-
 -- where an item is added, there are few modules and few wires
 abbrev IsNarrow : Stage → List ℕ → Type 0
 IsNarrow (Within turns modules m) line = line ≢ codes "end\n" → (length modules ≤ 65536) × (both (wires_of (body_of m)) ≤ 65536)
@@ -184,7 +180,7 @@ not_end i line p end = no_item_end i (subst (ItemText i) end p)
 
 one_next : (stage : Stage) (line : List ℕ) (a b : Stage) → IsNarrow stage line → InPlace stage line a → InPlace stage line b → a ≡ b
 one_next Title line a b narrow p q =
-    let version = (number_line_one_way (codes "hier") (version_of p.turns) (version_of q.turns) [] [] (small_version p.turns) (small_version q.turns)
+    let version = (number_line_one_way (codes "hier") (version_of p.turns) (version_of q.turns) [] [] (version_small p.turns) (version_small q.turns)
     (ap (λ (z : List ℕ). z ++ []) (sym p.line_is ∙ q.line_is))).0 in
     p.next_is ∙ (ap (λ (z : Bool). Between z []) (same_version p.turns q.turns version) ∙ sym q.next_is)
 one_next (Between turns modules) line a b narrow p q =

@@ -7,3 +7,4 @@ pub mod HierItemSteps
 pub mod HierItems
 pub mod HierLoops
 pub mod HierModules
+pub mod HierOneWay
