@@ -203,7 +203,7 @@ get_last (n ∷ modules) m = get_last modules m
 last_there : (modules : List Module) (m : Module) → slice_get (modules ++ m ∷ []) (length (modules ++ m ∷ []) - 1) ≡ Some m
 last_there modules m = ap (slice_get (modules ++ m ∷ [])) (omega (arith, length-append modules (m ∷ []))) ∙ get_last modules m
 
-same_key : (k l : Key) → Some k ≡ Some l → k ≡ l
+pub same_key : (k l : Key) → Some k ≡ Some l → k ≡ l
 same_key k l same = cc
 
 pub main_last_key : (modules : List Module) (m : Module) → EndsWithMain (modules ++ m ∷ []) → m.key ≡ main_key

@@ -79,7 +79,7 @@ one_call modules wires c d ws vs few narrow p q known other e =
     (same.0, wires_one wires.qubits wires.cbits ws vs (omega (arith, narrow)) (omega (arith, narrow)) p q same.1)
 
 -- GATES
-gate_has_line : (wires : Numbers) (g : Gate) → both wires ≤ 65536 → GateFits wires g → FitsSigned w64 (value_of g.kind) → HasLine g
+pub gate_has_line : (wires : Numbers) (g : Gate) → both wires ≤ 65536 → GateFits wires g → FitsSigned w64 (value_of g.kind) → HasLine g
 gate_has_line wires g narrow fits range = record {
   well_formed = fits.well_formed;
   in_range = range;
@@ -204,8 +204,21 @@ one_next (Over modules) line a b narrow p q = absurd p
 wires_before : (m : Module) (i : Item) → both (wires_of (body_of m)) ≤ both (wires_of (body_of (record m { items = m.items ++ i ∷ [] })))
 wires_before m i = omega (arith, item_grows i (wires_of (body_of m)), ap both (after_items-push (params_of m.key) m.items i))
 
-none_at_next : (a b : Stage) → a ≡ b → ((limit : Limit) → Passes a limit → ⊥) → (limit : Limit) → Passes b limit → ⊥
+pub none_at_next : (a b : Stage) → a ≡ b → ((limit : Limit) → Passes a limit → ⊥) → (limit : Limit) → Passes b limit → ⊥
 none_at_next a b same none limit p = none limit (subst (λ (z : Stage). Passes z limit) (sym same) p)
+
+-- a stage that passes no limit has few modules and few wires
+pub few_modules : (turns : Bool) (modules : List Module) (m : Module) → ((limit : Limit) → Passes (Within turns modules m) limit → ⊥) → length modules < 65536
+few_modules turns modules m none = elim (leb_tells 65536 (length modules)) [
+  | inl many ↦ absurd (none Instances many.1)
+  | inr few ↦ few.1
+]
+
+pub few_wires : (turns : Bool) (modules : List Module) (m : Module) → ((limit : Limit) → Passes (Within turns modules m) limit → ⊥) → both (wires_of (body_of m)) ≤ 65536
+few_wires turns modules m none = elim (leb_tells (both (wires_of (body_of m))) 65536) [
+  | inl narrow ↦ narrow.1
+  | inr wide ↦ absurd (none Wires wide.1)
+]
 
 narrow_goes : (stage : Stage) (line : List ℕ) (next : Stage) → Goes stage line next → IsNarrow stage line
 narrow_goes Title line next p = tt
@@ -215,16 +228,9 @@ narrow_goes (Within turns modules m) line next p = by p.in_place
   where
     by : InPlace (Within turns modules m) line next → line ≢ codes "end\n" → (length modules ≤ 65536) × (both (wires_of (body_of m)) ≤ 65536)
     by (inl q) other =
-        let none = none_at_next next (Within turns modules (record m { items = m.items ++ q.item ∷ [] })) q.next_is p.within in
-        let few : length modules ≤ 65536 = (elim (leb_tells (length modules) 65536) [
-          | inl le ↦ le.1
-          | inr lt ↦ absurd (none Instances (omega (arith, lt.1)))
-        ]) in
-        let narrow : both (wires_of (body_of (record m { items = m.items ++ q.item ∷ [] }))) ≤ 65536 = (elim (leb_tells (both (wires_of (body_of (record m { items = m.items ++ q.item ∷ [] })))) 65536) [
-          | inl le ↦ le.1
-          | inr lt ↦ absurd (none Wires lt.1)
-        ]) in
-        (few, omega (arith, narrow, wires_before m q.item))
+        let more : Module = record m { items = m.items ++ q.item ∷ [] } in
+        let none = none_at_next next (Within turns modules more) q.next_is p.within in
+        (omega (arith, few_modules turns modules more none), omega (arith, few_wires turns modules more none, wires_before m q.item))
     by (inr (inl q)) other = absurd (other q.line_is)
     by (inr (inr q)) other = absurd (other q.line_is)
 
