@@ -1,6 +1,6 @@
 -- Lines behind lines, and the loops over the items and the modules of a hierarchical text.
-use Rattle.std.proofs.Common.{◌≡◌, ◌≢◌, ℕ, zero, suc, get_or, inl, inr, All, ◌+◌, ◌<◌, ◌≤◌, ◌^◌, Bool, true, false, List, [], ◌∷◌, ◌++◌, length, refl, sym, ap, ◌∙◌, subst, arith, append_assoc, append-nil, length-append}
-use Rattle.std.specs.Prelude.{codes}
+use Rattle.std.proofs.Common.{◌≡◌, ◌≢◌, ℕ, inl, inr, All, ◌+◌, ◌-◌, ◌<◌, ◌≤◌, ◌^◌, Bool, true, false, List, [], ◌∷◌, ◌++◌, length, refl, sym, ap, ◌∙◌, subst, arith, append_assoc, append-nil, length-append, Result, Ok, Err}
+use Rattle.std.specs.Prelude.{codes, IfOk, IfErr}
 use Rattle.std.proofs.lemmas.List.Concat.{flat_map-append}
 use Rattle.std.proofs.lemmas.List.Elements.{All-push}
 use Rattle.sc_base.specs.Lines.{IsLine, joined, GoThrough, ReadTo, IsReadWhole, IsFirstBad, IsFirstBreak}
@@ -24,8 +24,9 @@ use Rattle.sc_read.specs.declared.hier.HierFault.{HierFault}
 use Rattle.sc_read.specs.declared.hier.HierFault.TheVariants.{BadQasm, TooWide, TooLong, TooDeep, TooManyInstances, Memory}
 use Rattle.sc_read.specs.HierLines.{ItemText}
 use Rattle.sc_read.specs.HierStages.{Stage, Title, version_of, Between, Within, Over, Limit, Instances, Wires, Items, Depth, InPlace, Passes, Goes, Breaks, MayEnd}
-use Rattle.sc_read.specs.HierSteps.{IsBegun, IsLineFault, IsFaultFrom, IsSoundSoFar, Begins, GoesOn, ItemsRead, ModuleRead, module_of}
+use Rattle.sc_read.specs.HierSteps.{IsBegun, IsLineFault, IsFaultFrom, IsSoundSoFar, Begins, GoesOn, ItemsRead, ModuleRead, EndsWithMain, IsEndFault, module_of}
 use Rattle.sc_read.proofs.HierItems.{not_gate}
+use Rattle.sc_read.proofs.HierModules.{main_last_key, last_main_key}
 
 -- LINES BEHIND LINES
 pub go_then : (from : Stage) (lines : List (List ℕ)) (stage : Stage) (more : List (List ℕ)) (to : Stage) → GoThrough Goes from lines stage → GoThrough Goes stage more to → GoThrough Goes from (lines ++ more) to
@@ -353,3 +354,69 @@ pub no_title : (text : List ℕ) → ((more : List ℕ) → text ≡ codes "hier
     (turns : Bool) (rest : List ℕ) → text ≡ number_line (codes "hier") (version_of turns) ++ rest → ⊥
 no_title text one two false rest is = one rest is
 no_title text one two true rest is = two rest is
+
+-- ONE MODULE MORE
+-- so far modules were read, and then one more
+pub record OneModule (turns : Bool) (text : List ℕ) (first : ℕ) (now : List Module) (after : Lines) : Type 0 where
+  pub modules : List Module
+  pub rest : List ℕ
+  pub number : ℕ
+  pub line : List ℕ
+  pub before : Lines
+  pub m : Module
+  pub so_far : ModulesSoFar turns text first modules rest number
+  pub there : rest ≡ line ++ before.rest.now
+  pub read : ModuleRead turns modules now line number before after m
+  pub bound : after.number + length after.rest.now ≤ number + length rest
+
+pub one_module : (turns : Bool) (text : List ℕ) (first : ℕ) (modules : List Module) (rest : List ℕ) (number : ℕ) (now : List Module) (line : List ℕ) (before after : Lines) →
+    ModulesSoFar turns text first modules rest number → rest ≡ line ++ before.rest.now → before.number ≡ number + 1 → (m : Module) × ModuleRead turns modules now line (before.number - 1) before after m →
+    after.number + length after.rest.now ≤ number + length rest → OneModule turns text first now after
+one_module turns text first modules rest number now line before after p there step r shorter =
+    let same : before.number - 1 ≡ number = omega (arith, step) in
+    record {
+      modules = modules;
+      rest = rest;
+      number = number;
+      line = line;
+      before = before;
+      m = r.0;
+      so_far = p;
+      there = there;
+      read = subst (λ (z : ℕ). ModuleRead turns modules now line z before after r.0) same r.1;
+      bound = shorter;
+    }
+
+pub module_goes_on : (turns : Bool) (text : List ℕ) (first : ℕ) (now : List Module) (after : Lines) → OneModule turns text first now after → (EndsWithMain now → ⊥) →
+    ModulesSoFar turns text first now after.rest.now after.number
+module_goes_on turns text first now after p other =
+    modules_more turns text first p.modules p.rest p.number now p.line p.before after p.m p.so_far p.there p.read
+    (λ main. other (subst EndsWithMain (sym p.read.pushed) (last_main_key p.modules p.m main))) p.bound
+
+pub module_ends_text : (turns : Bool) (text : List ℕ) (first : ℕ) (now : List Module) (after : Lines) → OneModule turns text first now after → IsWhole now → after.rest.now ≡ [] →
+    IsReadWhole Goes MayEnd (Between turns []) text (Over now) × IsSound now
+module_ends_text turns text first now after p whole empty =
+    modules_whole turns text first p.modules p.rest p.number now p.line p.before after p.m p.so_far p.there p.read whole empty
+
+pub module_ends_badly : (turns : Bool) (text : List ℕ) (first : ℕ) (now : List Module) (after : Lines) → OneModule turns text first now after → EndsWithMain now →
+    (fault : HierFault) → IsEndFault now after.rest.now after.number fault → IsFaultFrom (Between turns []) text first fault
+module_ends_badly turns text first now after p last (BadQasm n) (inl q) =
+    modules_not_whole turns text first p.modules p.rest p.number now p.line p.before after p.m n p.so_far p.there p.read
+    (main_last_key p.modules p.m (subst EndsWithMain p.read.pushed last)) q.1 q.0
+module_ends_badly turns text first now after p last (BadQasm n) (inr q) =
+    subst (λ (z : ℕ). IsFaultFrom (Between turns []) text first (BadQasm z)) (sym q.0)
+    (modules_behind turns text first p.modules p.rest p.number now p.line p.before after p.m p.so_far p.there p.read q.1 q.2)
+module_ends_badly turns text first now after p last (TooWide n) q = absurd q
+module_ends_badly turns text first now after p last (TooLong n) q = absurd q
+module_ends_badly turns text first now after p last (TooDeep n) q = absurd q
+module_ends_badly turns text first now after p last (TooManyInstances n) q = absurd q
+module_ends_badly turns text first now after p last Memory q = absurd q
+
+-- RESULTS
+pub ok_then : {T E : Type 0} (r : Result T E) (P Q : T → Type 0) → IfOk r P → ((x : T) → P x → Q x) → IfOk r Q
+ok_then (Ok x) P Q p f = f x p
+ok_then (Err e) P Q p f = tt
+
+pub err_then : {T E : Type 0} (r : Result T E) (P Q : E → Type 0) → IfErr r P → ((e : E) → P e → Q e) → IfErr r Q
+err_then (Ok x) P Q p f = tt
+err_then (Err e) P Q p f = f e p
