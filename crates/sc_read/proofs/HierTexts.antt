@@ -279,8 +279,8 @@ heading_goes turns done m p = record {
   within = no_limits turns done m.key [] m.items p.limits;
 }
 
-last_is_main : (modules : List Module) → IsWhole modules → (d : Module) → (x : Module) × (length modules - 1 < length modules) × (get_or modules (length modules - 1) x ≡ x) × (x.key ≡ main_key)
-last_is_main modules whole d = elim (slice_get_cases modules (length modules - 1)).1 [
+last_is_main : (modules : List Module) → IsWhole modules → (x : Module) × (length modules - 1 < length modules) × (get_or modules (length modules - 1) x ≡ x) × (x.key ≡ main_key)
+last_is_main modules whole = elim (slice_get_cases modules (length modules - 1)).1 [
   | inl at ↦ (at.0, at.1, at.3, same_key at.0.key main_key (sym (ap (option_map key_of) at.2) ∙ whole.main_last))
   | inr none ↦ absurd (let clash : None ≡ Some main_key = sym (ap (option_map key_of) none.1) ∙ whole.main_last in cc)
 ]
@@ -288,43 +288,45 @@ last_is_main modules whole d = elim (slice_get_cases modules (length modules - 1
 not_last_main : (done : List Module) (m n : Module) (ns : List Module) → IsWhole (done ++ m ∷ n ∷ ns) → AllPairs (λ k l. k ≢ l) (map key_of (done ++ m ∷ n ∷ ns)) → m.key ≢ main_key
 not_last_main done m n ns whole distinct same =
     let all : List Module = done ++ m ∷ n ∷ ns in
-    let last = last_is_main all whole m in
+    let last = last_is_main all whole in
     let long : length all ≡ length done + length (m ∷ n ∷ ns) = length-append done (m ∷ n ∷ ns) in
     let first : get_or (map key_of all) (length done) main_key ≡ m.key =
     get_or-map key_of all (length done) last.0 main_key (omega (arith, long)) ∙ ap key_of (get_or-append_seam done m (n ∷ ns) last.0) in
     let second : get_or (map key_of all) (length all - 1) main_key ≡ main_key = get_or-map key_of all (length all - 1) last.0 main_key last.1 ∙ (ap key_of last.2 ∙ last.3) in
     distinct (length done) (length all - 1) main_key (omega (arith, long)) (omega (arith, long, length-map all key_of)) (first ∙ (same ∙ sym second))
 
+-- from the line that begins a module to its `end`
+module_goes : (turns : Bool) (done : List Module) (m : Module) (lines : List (List ℕ)) (to : Stage) → Stands turns done m → GoThrough Goes (Within turns done m) lines to →
+    GoThrough Goes (Between turns done) (heading_line (length done) m.key ∷ (map item_line m.items ++ lines)) to
+module_goes turns done m lines to p go = (
+  Within turns done (with_items m.key []),
+  heading_is_line (length done) m.key (omega (arith, p.limits.room)) p.named (front_narrow done m.key [] m.items p.limits) (recursion_from_All ArgInRange m.key.args p.args),
+  heading_goes turns done m p,
+  go_then (Within turns done (with_items m.key [])) (map item_line m.items) (Within turns done m) lines to
+      (items_go turns done m.key [] m.items p.limits p.fits p.calls (recursion_from_All ItemInRange m.items p.in_range) p.version) go,
+)
+
 modules_go : (turns : Bool) (done ms : List Module) → AllStand turns done ms → 0 < length ms → IsWhole (done ++ ms) → AllPairs (λ k l. k ≢ l) (map key_of (done ++ ms)) →
     GoThrough Goes (Between turns done) (lines_of (length done) ms) (Over (done ++ ms))
 modules_go turns done [] all some whole distinct = absurd (omega (arith, some))
-modules_go turns done (m ∷ ms) all some whole distinct = (
-  Within turns done (with_items m.key []),
-  heading_is_line (length done) m.key (omega (arith, all.0.limits.room)) all.0.named (front_narrow done m.key [] m.items all.0.limits) (recursion_from_All ArgInRange m.key.args all.0.args),
-  heading_goes turns done m all.0,
-  go_then (Within turns done (with_items m.key [])) (map item_line m.items) (Within turns done m) (codes "end\n" ∷ lines_of (length done + 1) ms) (Over (done ++ m ∷ ms))
-      (items_go turns done m.key [] m.items all.0.limits all.0.fits all.0.calls (recursion_from_All ItemInRange m.items all.0.in_range) all.0.version)
-      (ends ms all.1 whole distinct),
-)
-  where
-    ends : (rest : List Module) → AllStand turns (done ++ m ∷ []) rest → IsWhole (done ++ m ∷ rest) → AllPairs (λ k l. k ≢ l) (map key_of (done ++ m ∷ rest)) →
-        GoThrough Goes (Within turns done m) (codes "end\n" ∷ lines_of (length done + 1) rest) (Over (done ++ m ∷ rest))
-    ends [] stand whole_here apart = (
+modules_go turns done (m ∷ []) all some whole distinct =
+    module_goes turns done m (codes "end\n" ∷ []) (Over (done ++ m ∷ [])) all.0 (
       Over (done ++ m ∷ []),
       end_is_line,
-      record { in_place = inr (inr (record { whole = whole_here; line_is = refl; next_is = refl })); within = no_limit_over (done ++ m ∷ []) },
+      record { in_place = inr (inr (record { whole = whole; line_is = refl; next_is = refl })); within = no_limit_over (done ++ m ∷ []) },
       refl,
     )
-    ends (n ∷ ns) stand whole_here apart =
-        let same : (done ++ m ∷ []) ++ n ∷ ns ≡ done ++ m ∷ n ∷ ns = append_assoc done (m ∷ []) (n ∷ ns) in (
-          Between turns (done ++ m ∷ []),
-          end_is_line,
-          record { in_place = inr (inl (record { not_main = not_last_main done m n ns whole_here apart; line_is = refl; next_is = refl })); within = no_limit_between turns (done ++ m ∷ []) },
-          subst (λ (z : ℕ). GoThrough Goes (Between turns (done ++ m ∷ [])) (lines_of z (n ∷ ns)) (Over (done ++ m ∷ n ∷ ns))) (length-append done (m ∷ []))
-              (subst (λ (z : List Module). GoThrough Goes (Between turns (done ++ m ∷ [])) (lines_of (length (done ++ m ∷ [])) (n ∷ ns)) (Over z)) same
-              (modules_go turns (done ++ m ∷ []) (n ∷ ns) stand (omega arith) (subst IsWhole (sym same) whole_here)
-              (subst (λ (z : List Module). AllPairs (λ k l. k ≢ l) (map key_of z)) (sym same) apart))),
-        )
+modules_go turns done (m ∷ n ∷ ns) all some whole distinct =
+    let same : (done ++ m ∷ []) ++ n ∷ ns ≡ done ++ m ∷ n ∷ ns = append_assoc done (m ∷ []) (n ∷ ns) in
+    module_goes turns done m (codes "end\n" ∷ lines_of (length done + 1) (n ∷ ns)) (Over (done ++ m ∷ n ∷ ns)) all.0 (
+      Between turns (done ++ m ∷ []),
+      end_is_line,
+      record { in_place = inr (inl (record { not_main = not_last_main done m n ns whole distinct; line_is = refl; next_is = refl })); within = no_limit_between turns (done ++ m ∷ []) },
+      subst (λ (z : ℕ). GoThrough Goes (Between turns (done ++ m ∷ [])) (lines_of z (n ∷ ns)) (Over (done ++ m ∷ n ∷ ns))) (length-append done (m ∷ []))
+          (subst (λ (z : List Module). GoThrough Goes (Between turns (done ++ m ∷ [])) (lines_of (length (done ++ m ∷ [])) (n ∷ ns)) (Over z)) same
+          (modules_go turns (done ++ m ∷ []) (n ∷ ns) all.1 (omega arith) (subst IsWhole (sym same) whole)
+          (subst (λ (z : List Module). AllPairs (λ k l. k ≢ l) (map key_of z)) (sym same) distinct))),
+    )
 
 -- EACH MODULE OF A PROPER LIST STANDS IN ITS PLACE
 seam : (P : Module → Type 0) (done : List Module) (m : Module) (ms : List Module) → All P (done ++ m ∷ ms) → P m
