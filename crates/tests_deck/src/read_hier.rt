@@ -1,4 +1,7 @@
 //! Hierarchical texts that are read: in the grammar, past a limit, and out of it at a line.
+use sc_base::MemSink;
+use sc_deck::Deck;
+use sc_hier::write_hier;
 use sc_read::{HierFault, read_hier};
 use std::alloc::Global;
 use std::test::Fail;
@@ -6,15 +9,28 @@ use std::test::Fail;
 /// `g` with three turns of H, and main, which calls it twice.
 const REPEATED: &[u8] = b"hier 2\nmodule 0 g(q)\nqbit 1\nrepeat 3 H q1\nCNOT q1,q0\nend\nmodule 1 main()\nqbit 1\nrepeat 2 call 0 q0\nend\n";
 
-/// The number of bodies, where the text is read.
-fn bodies(alloc: Global, text: &[u8]) -> Result<u32, HierFault> {
-    if text.len() > 1000 {
+fn read(alloc: Global, text: &[u8]) -> Result<Deck, HierFault> {
+    if text.len() > 10_000_000 {
         return Err(HierFault::Memory);
     }
-    match read_hier(alloc, text) {
+    read_hier(alloc, text)
+}
+
+/// The number of bodies, where the text is read.
+fn bodies(alloc: Global, text: &[u8]) -> Result<u32, HierFault> {
+    match read(alloc, text) {
         Ok(deck) => Ok(deck.len()),
         Err(fault) => Err(fault),
     }
+}
+
+#[test]
+fn hier_text_in_and_out(rt: HostRuntime) -> Result<(), Fail> {
+    let deck = read(rt.alloc(), REPEATED)?;
+    let mut sink = MemSink::new(rt.alloc(), 64, 400)?;
+    write_hier(&deck, &mut sink)?;
+    assert_eq!(rt; sink.written(), REPEATED);
+    Ok(())
 }
 
 #[test]
@@ -84,6 +100,23 @@ fn bad_lines_of_modules(rt: HostRuntime) {
 }
 
 #[test]
+fn bad_signatures(rt: HostRuntime) {
+    for text in [
+        "hier 1\nmodule 0 f(+1)\nend\n",
+        "hier 1\nmodule 0 f(01)\nend\n",
+        "hier 1\nmodule 0 f(9223372036854775808)\nend\n",
+        "hier 1\nmodule 0 f(-0.000000000000)\nend\n",
+        "hier 1\nmodule 0 f(0.50000000000)\nend\n",
+        "hier 1\nmodule 00 f()\nend\n",
+        "hier 1\nmodule 0  f()\nend\n",
+        "hier 1\nmodule 0 f()\r\nend\n",
+    ] {
+        let found = bodies(rt.alloc(), text.as_bytes());
+        assert_eq!(rt; found, Err(HierFault::BadQasm(2)));
+    }
+}
+
+#[test]
 fn limits_on_wires(rt: HostRuntime) {
     for (text, answer) in [
         ("hier 1\nmodule 0 main()\nqbit 65537\nend\n", HierFault::TooWide(3)),
@@ -96,4 +129,51 @@ fn limits_on_wires(rt: HostRuntime) {
     ] {
         assert_eq!(rt; bodies(rt.alloc(), text.as_bytes()), Err(answer));
     }
+}
+
+/// So many modules `m(0)`, `m(1)` and so on, each of which but the first calls the one before it, where that is asked.
+fn tower(alloc: Global, count: u32, calls: bool) -> Result<String, Fail> {
+    let mut text = String::new(alloc);
+    text.push_str("hier 1\n")?;
+    for i in 0..count {
+        text.push_str(&format!(in alloc; "module {i} m({i})\n")?)?;
+        if calls && i > 0 {
+            let below = i - 1;
+            text.push_str(&format!(in alloc; "call {below}\n")?)?;
+        }
+        text.push_str("end\n")?;
+    }
+    Ok(text)
+}
+
+/// One module of a declaration and so many gates.
+fn long_module(alloc: Global, gates: u32) -> Result<String, Fail> {
+    let mut text = String::new(alloc);
+    text.push_str("hier 1\nmodule 0 main()\nqbit 1\n")?;
+    for _ in 0..gates {
+        text.push_str("X q0\n")?;
+    }
+    text.push_str("end\n")?;
+    Ok(text)
+}
+
+#[test]
+fn limits_on_modules(rt: HostRuntime) -> Result<(), Fail> {
+    let deep = tower(rt.alloc(), 257, true)?;
+    let found = bodies(rt.alloc(), deep.as_bytes());
+    assert_eq!(rt; found, Err(HierFault::TooDeep(770)));
+    let many = tower(rt.alloc(), 65537, false)?;
+    let found = bodies(rt.alloc(), many.as_bytes());
+    assert_eq!(rt; found, Err(HierFault::TooManyInstances(131074)));
+    Ok(())
+}
+
+#[test]
+fn limit_on_items(rt: HostRuntime) -> Result<(), Fail> {
+    let most = long_module(rt.alloc(), 1048575)?;
+    assert_eq!(rt; bodies(rt.alloc(), most.as_bytes())?, 1);
+    let long = long_module(rt.alloc(), 1048576)?;
+    let found = bodies(rt.alloc(), long.as_bytes());
+    assert_eq!(rt; found, Err(HierFault::TooLong(1048579)));
+    Ok(())
 }
