@@ -1,5 +1,5 @@
 -- Modules of hierarchical texts, as they begin.
-use Rattle.std.proofs.Common.{◌≡◌, ◌≢◌, ℕ, zero, suc, ◌+◌, ◌-◌, ◌<◌, ◌≤◌, Bool, List, [], ◌∷◌, ◌++◌, map, fold, length, get_or, slice_get, refl, sym, ap, ◌∙◌, subst, arith, inl, inr, Option, Some, None, min, All, length-append}
+use Rattle.std.proofs.Common.{◌≡◌, ◌≢◌, ℕ, zero, suc, ◌+◌, ◌-◌, ◌<◌, ◌≤◌, Bool, List, [], ◌∷◌, ◌++◌, map, fold, length, take, get_or, slice_get, refl, sym, ap, ◌∙◌, subst, arith, inl, inr, Option, Some, None, min, All, length-append}
 use Rattle.std.specs.List.{AllByRecursion}
 use Rattle.std.specs.Option.{option_map}
 use Rattle.std.proofs.Math.Nat.{min-eq_left, min-eq_right}
@@ -7,7 +7,7 @@ use Rattle.std.proofs.lemmas.Bool.Decides.{leb_tells}
 use Rattle.std.proofs.lemmas.Option.{slice_get_cases}
 use Rattle.sc_base.specs.declared.names.Class.{Class}
 use Rattle.sc_base.specs.declared.names.Class.TheVariants.{Q, C}
-use Rattle.sc_gate.specs.Numbers.{Numbers, no_wires, with_more, both}
+use Rattle.sc_gate.specs.Numbers.{Numbers, number_of, no_wires, with_more, both}
 use Rattle.sc_deck.specs.declared.item.Item.{Item}
 use Rattle.sc_deck.specs.declared.item.Item.TheVariants as item
 use Rattle.sc_deck.specs.declared.key.Arg.{Arg}
@@ -211,3 +211,44 @@ main_last_key modules m last = same_key m.key main_key (sym (ap (option_map key_
 
 pub last_main_key : (modules : List Module) (m : Module) → m.key ≡ main_key → EndsWithMain (modules ++ m ∷ [])
 last_main_key modules m main = ap (option_map key_of) (last_there modules m) ∙ ap Some main
+
+-- WIRES OF PARAMETERS
+more_of_class : (class other : Class) (n : ℕ) (wires : Numbers) → number_of class wires ≤ number_of class (with_more other n wires)
+more_of_class Q Q n wires = omega arith
+more_of_class Q C n wires = omega arith
+more_of_class C Q n wires = omega arith
+more_of_class C C n wires = omega arith
+
+arg_of_class : (class : Class) (a : Arg) (wires : Numbers) → number_of class wires ≤ number_of class (with_arg wires a)
+arg_of_class class (Int n) wires = omega arith
+arg_of_class class (Double x) wires = omega arith
+arg_of_class class (One other) wires = more_of_class class other 1 wires
+arg_of_class class (Many other n) wires = more_of_class class other n wires
+
+args_of_class : (class : Class) (args : List Arg) (wires : Numbers) → number_of class wires ≤ number_of class (fold with_arg wires args)
+args_of_class class [] wires = omega arith
+args_of_class class (a ∷ args) wires = omega (arith, arg_of_class class a wires, args_of_class class args (with_arg wires a))
+
+front_of_class : (class : Class) (args : List Arg) (i : ℕ) (wires : Numbers) → number_of class (fold with_arg wires (take i args)) ≤ number_of class (fold with_arg wires args)
+front_of_class class [] zero wires = omega arith
+front_of_class class [] (suc i) wires = omega arith
+front_of_class class (a ∷ args) zero wires = args_of_class class (a ∷ args) wires
+front_of_class class (a ∷ args) (suc i) wires = front_of_class class args i (with_arg wires a)
+
+one_more_arg : (args : List Arg) (i : ℕ) (a : Arg) (wires : Numbers) → i < length args → get_or args i a ≡ a → fold with_arg wires (take (i + 1) args) ≡ with_arg (fold with_arg wires (take i args)) a
+one_more_arg [] i a wires within is = absurd (omega (arith, within))
+one_more_arg (x ∷ args) zero a wires within is = ap (with_arg wires) is
+one_more_arg (x ∷ args) (suc i) a wires within is = one_more_arg args i a (with_arg wires x) (omega (arith, within)) is
+
+pub sum_more : (class : Class) (args : List Arg) (i : ℕ) (a : Arg) (sum count : ℕ) → i < length args → get_or args i a ≡ a → number_of class (fold with_arg no_wires (take i args)) ≡ sum →
+    ((wires : Numbers) → number_of class (with_arg wires a) ≡ number_of class wires + count) → number_of class (fold with_arg no_wires (take (i + 1) args)) ≡ sum + count
+sum_more class args i a sum count within is so_far each =
+    ap (number_of class) (one_more_arg args i a no_wires within is) ∙ (each (fold with_arg no_wires (take i args)) ∙ ap (λ (z : ℕ). z + count) so_far)
+
+pub sum_past : (class : Class) (args : List Arg) (i : ℕ) (a : Arg) (sum count : ℕ) → i < length args → get_or args i a ≡ a → number_of class (fold with_arg no_wires (take i args)) ≡ sum →
+    ((wires : Numbers) → number_of class (with_arg wires a) ≡ number_of class wires + count) → 65536 < sum + count → 65536 < number_of class (fold with_arg no_wires args)
+sum_past class args i a sum count within is so_far each past =
+    omega (arith, past, sum_more class args i a sum count within is so_far each, front_of_class class args (i + 1) no_wires)
+
+pub wires_of_args : (key : Key) → both (params_of key) ≡ number_of Q (fold with_arg no_wires key.args) + number_of C (fold with_arg no_wires key.args)
+wires_of_args key = refl
