@@ -8,3 +8,4 @@ pub mod HierItems
 pub mod HierLoops
 pub mod HierModules
 pub mod HierOneWay
+pub mod HierTexts
