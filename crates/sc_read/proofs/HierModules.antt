@@ -235,20 +235,29 @@ front_of_class class [] (suc i) wires = omega arith
 front_of_class class (a ∷ args) zero wires = args_of_class class (a ∷ args) wires
 front_of_class class (a ∷ args) (suc i) wires = front_of_class class args i (with_arg wires a)
 
-one_more_arg : (args : List Arg) (i : ℕ) (a : Arg) (wires : Numbers) → i < length args → get_or args i a ≡ a → fold with_arg wires (take (i + 1) args) ≡ with_arg (fold with_arg wires (take i args)) a
-one_more_arg [] i a wires within is = absurd (omega (arith, within))
-one_more_arg (x ∷ args) zero a wires within is = ap (with_arg wires) is
-one_more_arg (x ∷ args) (suc i) a wires within is = one_more_arg args i a (with_arg wires x) (omega (arith, within)) is
+one_more_arg : (args : List Arg) (i : ℕ) (d : Arg) (wires : Numbers) → i < length args → fold with_arg wires (take (i + 1) args) ≡ with_arg (fold with_arg wires (take i args)) (get_or args i d)
+one_more_arg [] i d wires within = absurd (omega (arith, within))
+one_more_arg (x ∷ args) zero d wires within = refl
+one_more_arg (x ∷ args) (suc i) d wires within = one_more_arg args i d (with_arg wires x) (omega (arith, within))
 
-pub sum_more : (class : Class) (args : List Arg) (i : ℕ) (a : Arg) (sum count : ℕ) → i < length args → get_or args i a ≡ a → number_of class (fold with_arg no_wires (take i args)) ≡ sum →
-    ((wires : Numbers) → number_of class (with_arg wires a) ≡ number_of class wires + count) → number_of class (fold with_arg no_wires (take (i + 1) args)) ≡ sum + count
-sum_more class args i a sum count within is so_far each =
-    ap (number_of class) (one_more_arg args i a no_wires within is) ∙ (each (fold with_arg no_wires (take i args)) ∙ ap (λ (z : ℕ). z + count) so_far)
+pub sum_more : (class : Class) (args : List Arg) (i : ℕ) (d : Arg) (sum count : ℕ) → i < length args → number_of class (fold with_arg no_wires (take i args)) ≡ sum →
+    ((wires : Numbers) → number_of class (with_arg wires (get_or args i d)) ≡ number_of class wires + count) → number_of class (fold with_arg no_wires (take (i + 1) args)) ≡ sum + count
+sum_more class args i d sum count within so_far each =
+    ap (number_of class) (one_more_arg args i d no_wires within) ∙ (each (fold with_arg no_wires (take i args)) ∙ ap (λ (z : ℕ). z + count) so_far)
 
-pub sum_past : (class : Class) (args : List Arg) (i : ℕ) (a : Arg) (sum count : ℕ) → i < length args → get_or args i a ≡ a → number_of class (fold with_arg no_wires (take i args)) ≡ sum →
-    ((wires : Numbers) → number_of class (with_arg wires a) ≡ number_of class wires + count) → 65536 < sum + count → 65536 < number_of class (fold with_arg no_wires args)
-sum_past class args i a sum count within is so_far each past =
-    omega (arith, past, sum_more class args i a sum count within is so_far each, front_of_class class args (i + 1) no_wires)
+pub sum_past : (class : Class) (args : List Arg) (i : ℕ) (d : Arg) (sum count : ℕ) → i < length args → number_of class (fold with_arg no_wires (take i args)) ≡ sum →
+    ((wires : Numbers) → number_of class (with_arg wires (get_or args i d)) ≡ number_of class wires + count) → 65536 < sum + count → 65536 < number_of class (fold with_arg no_wires args)
+sum_past class args i d sum count within so_far each past =
+    omega (arith, past, sum_more class args i d sum count within so_far each, front_of_class class args (i + 1) no_wires)
+
+all_taken : (args : List Arg) (i : ℕ) → length args ≤ i → take i args ≡ args
+all_taken [] zero over = refl
+all_taken [] (suc i) over = refl
+all_taken (a ∷ args) zero over = absurd (omega (arith, over))
+all_taken (a ∷ args) (suc i) over = ap (λ (z : List Arg). a ∷ z) (all_taken args i (omega (arith, over)))
+
+pub sum_all : (class : Class) (args : List Arg) (i sum : ℕ) → length args ≤ i → number_of class (fold with_arg no_wires (take i args)) ≡ sum → number_of class (fold with_arg no_wires args) ≡ sum
+sum_all class args i sum over so_far = ap (λ (z : List Arg). number_of class (fold with_arg no_wires z)) (sym (all_taken args i over)) ∙ so_far
 
 pub wires_of_args : (key : Key) → both (params_of key) ≡ number_of Q (fold with_arg no_wires key.args) + number_of C (fold with_arg no_wires key.args)
 wires_of_args key = refl
