@@ -4,6 +4,7 @@ use Rattle.std.specs.List.{AllByRecursion}
 use Rattle.std.specs.Option.{option_map}
 use Rattle.std.proofs.Math.Nat.{min-eq_left, min-eq_right}
 use Rattle.std.proofs.lemmas.Bool.Decides.{leb_tells}
+use Rattle.std.proofs.lemmas.List.{take_all}
 use Rattle.std.proofs.lemmas.Option.{slice_get_cases}
 use Rattle.sc_base.specs.declared.names.Class.{Class}
 use Rattle.sc_base.specs.declared.names.Class.TheVariants.{Q, C}
@@ -250,14 +251,8 @@ pub sum_past : (class : Class) (args : List Arg) (i : ℕ) (d : Arg) (sum count 
 sum_past class args i d sum count within so_far each past =
     omega (arith, past, sum_more class args i d sum count within so_far each, front_of_class class args (i + 1) no_wires)
 
-all_taken : (args : List Arg) (i : ℕ) → length args ≤ i → take i args ≡ args
-all_taken [] zero over = refl
-all_taken [] (suc i) over = refl
-all_taken (a ∷ args) zero over = absurd (omega (arith, over))
-all_taken (a ∷ args) (suc i) over = ap (λ (z : List Arg). a ∷ z) (all_taken args i (omega (arith, over)))
-
 pub sum_all : (class : Class) (args : List Arg) (i sum : ℕ) → length args ≤ i → number_of class (fold with_arg no_wires (take i args)) ≡ sum → number_of class (fold with_arg no_wires args) ≡ sum
-sum_all class args i sum over so_far = ap (λ (z : List Arg). number_of class (fold with_arg no_wires z)) (sym (all_taken args i over)) ∙ so_far
+sum_all class args i sum over so_far = ap (λ (z : List Arg). number_of class (fold with_arg no_wires z)) (sym (take_all i args over)) ∙ so_far
 
 pub wires_of_args : (key : Key) → both (params_of key) ≡ number_of Q (fold with_arg no_wires key.args) + number_of C (fold with_arg no_wires key.args)
 wires_of_args key = refl
