@@ -14,7 +14,7 @@ use Rattle.sc_deck.specs.declared.item.Item.TheVariants as item
 use Rattle.sc_deck.specs.declared.key.Arg.{Arg}
 use Rattle.sc_deck.specs.declared.key.Arg.TheVariants.{Int, Double, One, Many}
 use Rattle.sc_deck.specs.declared.key.Key.{Key}
-use Rattle.sc_deck.specs.Bodies.{Contents, IsBody, after_items, wires_of}
+use Rattle.sc_deck.specs.Bodies.{Contents, IsBody, after_items, wires_of, empty_body}
 use Rattle.sc_base.specs.NameTexts.{IsNameText}
 use Rattle.sc_deck.specs.Decks.{IsDeck, IsNewKey, CallsFit}
 use Rattle.sc_deck.specs.Items.{after_item}
@@ -254,5 +254,30 @@ sum_past class args i d sum count within so_far each past =
 pub sum_all : (class : Class) (args : List Arg) (i sum : ℕ) → length args ≤ i → number_of class (fold with_arg no_wires (take i args)) ≡ sum → number_of class (fold with_arg no_wires args) ≡ sum
 sum_all class args i sum over so_far = ap (λ (z : List Arg). number_of class (fold with_arg no_wires z)) (sym (take_all i args over)) ∙ so_far
 
-pub wires_of_args : (key : Key) → both (params_of key) ≡ number_of Q (fold with_arg no_wires key.args) + number_of C (fold with_arg no_wires key.args)
-wires_of_args key = refl
+sum_at : (class : Class) (args others : List Arg) (n : ℕ) → others ≡ args → number_of class (fold with_arg no_wires others) ≡ n → number_of class (fold with_arg no_wires args) ≡ n
+sum_at class args others n same is = subst (λ (z : List Arg). number_of class (fold with_arg no_wires z) ≡ n) same is
+
+pub begin_within : (modules : List Module) (line : List ℕ) (kept : Key) (body : Contents) (q c : ℕ) (qs cs : List Arg) → IsDeck modules → ReadsHeading (length modules) line kept → IsNewKey modules kept →
+    length modules < 65536 → qs ≡ kept.args → cs ≡ kept.args → (q ≤ 65536 → number_of Q (fold with_arg no_wires qs) ≡ q) → (c ≤ 65536 → number_of C (fold with_arg no_wires cs) ≡ c) →
+    q + c ≤ 65536 → body ≡ empty_body q c → Begins modules line kept body
+begin_within modules line kept body q c qs cs deck r new few qs_is cs_is qubits cbits narrow body_is =
+    let first : number_of Q (fold with_arg no_wires kept.args) ≡ q = sum_at Q kept.args qs q qs_is (qubits (omega (arith, narrow))) in
+    let second : number_of C (fold with_arg no_wires kept.args) ≡ c = sum_at C kept.args cs c cs_is (cbits (omega (arith, narrow))) in
+    let same : params_of kept ≡ (empty_body q c).params = λ i. record { qubits = first i; cbits = second i } in
+    begin_goes modules line kept body deck r new few (omega (arith, first, second, narrow)) (ap (λ (b : Contents). b.params) body_is ∙ sym same) (ap (λ (b : Contents). b.items) body_is)
+
+pub begin_past : (modules : List Module) (line : List ℕ) (kept : Key) (q c : ℕ) (qs cs : List Arg) → IsDeck modules → ReadsHeading (length modules) line kept → IsNewKey modules kept →
+    length modules < 65536 → qs ≡ kept.args → cs ≡ kept.args → (q ≤ 65536 → number_of Q (fold with_arg no_wires qs) ≡ q) → (c ≤ 65536 → number_of C (fold with_arg no_wires cs) ≡ c) →
+    (65536 < q → 65536 < number_of Q (fold with_arg no_wires qs)) → (65536 < c → 65536 < number_of C (fold with_arg no_wires cs)) → 65536 < q + c → (turns : Bool) → Breaks (Between turns modules) line Wires
+begin_past modules line kept q c qs cs deck r new few qs_is cs_is qubits cbits many_qubits many_cbits wide = begin_wide modules line kept deck r new few true_wide
+  where
+    past : (class : Class) (others : List Arg) → others ≡ kept.args → 65536 < number_of class (fold with_arg no_wires others) → 65536 < number_of class (fold with_arg no_wires kept.args)
+    past class others same is = subst (λ (z : List Arg). 65536 < number_of class (fold with_arg no_wires z)) same is
+    true_wide : 65536 < both (params_of kept)
+    true_wide = elim (leb_tells q 65536) [
+      | inr lt ↦ omega (arith, past Q qs qs_is (many_qubits lt.1))
+      | inl le ↦ elim (leb_tells c 65536) [
+        | inr lt ↦ omega (arith, past C cs cs_is (many_cbits lt.1))
+        | inl few_cbits ↦ omega (arith, wide, sum_at Q kept.args qs q qs_is (qubits le.1), sum_at C kept.args cs c cs_is (cbits few_cbits.1))
+      ]
+    ]
