@@ -275,9 +275,9 @@ begin_past modules line kept q c qs cs deck r new few qs_is cs_is qubits cbits m
     past class others same is = subst (λ (z : List Arg). 65536 < number_of class (fold with_arg no_wires z)) same is
     true_wide : 65536 < both (params_of kept)
     true_wide = elim (leb_tells q 65536) [
-      | inr lt ↦ omega (arith, past Q qs qs_is (many_qubits lt.1))
       | inl le ↦ elim (leb_tells c 65536) [
-        | inr lt ↦ omega (arith, past C cs cs_is (many_cbits lt.1))
         | inl few_cbits ↦ omega (arith, wide, sum_at Q kept.args qs q qs_is (qubits le.1), sum_at C kept.args cs c cs_is (cbits few_cbits.1))
+        | inr lt ↦ omega (arith, past C cs cs_is (many_cbits lt.1))
       ]
+      | inr lt ↦ omega (arith, past Q qs qs_is (many_qubits lt.1))
     ]
