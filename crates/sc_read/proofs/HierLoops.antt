@@ -1,6 +1,7 @@
 -- Lines behind lines, and the loops over the items and the modules of a hierarchical text.
 use Rattle.std.proofs.Common.{◌≡◌, ◌≢◌, ℕ, inl, inr, All, ◌+◌, ◌-◌, ◌<◌, ◌≤◌, ◌^◌, Bool, true, false, List, [], ◌∷◌, ◌++◌, length, refl, sym, ap, ◌∙◌, subst, arith, append_assoc, append-nil, length-append, Result, Ok, Err}
 use Rattle.std.specs.Prelude.{codes, IfOk, IfErr}
+use Rattle.std.specs.Fmt.{digits}
 use Rattle.std.proofs.lemmas.List.Concat.{flat_map-append}
 use Rattle.std.proofs.lemmas.List.Elements.{All-push}
 use Rattle.sc_base.specs.Lines.{IsLine, joined, GoThrough, ReadTo, IsReadWhole, IsFirstBad, IsFirstBreak}
@@ -352,6 +353,7 @@ items_read turns modules was now before between after line p there end step = re
 
 pub no_title : (text : List ℕ) → ((more : List ℕ) → text ≡ codes "hier 1\n" ++ more → ⊥) → ((more : List ℕ) → text ≡ codes "hier 2\n" ++ more → ⊥) →
     (turns : Bool) (rest : List ℕ) → text ≡ number_line (codes "hier") (version_of turns) ++ rest → ⊥
+unfolding digits
 no_title text one two false rest is = one rest is
 no_title text one two true rest is = two rest is
 
