@@ -415,10 +415,10 @@ module_ends_badly turns text first now after p last (TooManyInstances n) q = abs
 module_ends_badly turns text first now after p last Memory q = absurd q
 
 -- RESULTS
-pub ok_then : {T E : Type 0} (r : Result T E) (P Q : T → Type 0) → IfOk r P → ((x : T) → P x → Q x) → IfOk r Q
-ok_then (Ok x) P Q p f = f x p
-ok_then (Err e) P Q p f = tt
+pub ok_then : {T E : Type 0} (r : Result T E) (P R : T → Type 0) → IfOk r P → ((x : T) → P x → R x) → IfOk r R
+ok_then (Ok x) P R p f = f x p
+ok_then (Err e) P R p f = tt
 
-pub err_then : {T E : Type 0} (r : Result T E) (P Q : E → Type 0) → IfErr r P → ((e : E) → P e → Q e) → IfErr r Q
-err_then (Ok x) P Q p f = tt
-err_then (Err e) P Q p f = f e p
+pub err_then : {T E : Type 0} (r : Result T E) (P R : E → Type 0) → IfErr r P → ((e : E) → P e → R e) → IfErr r R
+err_then (Ok x) P R p f = tt
+err_then (Err e) P R p f = f e p

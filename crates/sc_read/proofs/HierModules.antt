@@ -236,7 +236,7 @@ front_of_class class [] (suc i) wires = omega arith
 front_of_class class (a ∷ args) zero wires = args_of_class class (a ∷ args) wires
 front_of_class class (a ∷ args) (suc i) wires = front_of_class class args i (with_arg wires a)
 
-one_more_arg : (args : List Arg) (i : ℕ) (d : Arg) (wires : Numbers) → i < length args → fold with_arg wires (take (i + 1) args) ≡ with_arg (fold with_arg wires (take i args)) (get_or args i d)
+one_more_arg : (args : List Arg) (i : ℕ) (d : Arg) (wires : Numbers) → i < length args → fold with_arg wires (take (suc i) args) ≡ with_arg (fold with_arg wires (take i args)) (get_or args i d)
 one_more_arg [] i d wires within = absurd (omega (arith, within))
 one_more_arg (x ∷ args) zero d wires within = refl
 one_more_arg (x ∷ args) (suc i) d wires within = one_more_arg args i d (with_arg wires x) (omega (arith, within))
@@ -244,7 +244,9 @@ one_more_arg (x ∷ args) (suc i) d wires within = one_more_arg args i d (with_a
 pub sum_more : (class : Class) (args : List Arg) (i : ℕ) (d : Arg) (sum count : ℕ) → i < length args → number_of class (fold with_arg no_wires (take i args)) ≡ sum →
     ((wires : Numbers) → number_of class (with_arg wires (get_or args i d)) ≡ number_of class wires + count) → number_of class (fold with_arg no_wires (take (i + 1) args)) ≡ sum + count
 sum_more class args i d sum count within so_far each =
-    ap (number_of class) (one_more_arg args i d no_wires within) ∙ (each (fold with_arg no_wires (take i args)) ∙ ap (λ (z : ℕ). z + count) so_far)
+    let next : i + 1 ≡ suc i = omega arith in
+    ap (λ (z : ℕ). number_of class (fold with_arg no_wires (take z args))) next
+    ∙ (ap (number_of class) (one_more_arg args i d no_wires within) ∙ (each (fold with_arg no_wires (take i args)) ∙ ap (λ (z : ℕ). z + count) so_far))
 
 pub sum_past : (class : Class) (args : List Arg) (i : ℕ) (d : Arg) (sum count : ℕ) → i < length args → number_of class (fold with_arg no_wires (take i args)) ≡ sum →
     ((wires : Numbers) → number_of class (with_arg wires (get_or args i d)) ≡ number_of class wires + count) → 65536 < sum + count → 65536 < number_of class (fold with_arg no_wires args)

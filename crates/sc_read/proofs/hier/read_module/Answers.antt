@@ -9,7 +9,7 @@ use Rattle.sc_read.proofs.hier.read_module.Goals as goal
 
 pub returns-in_err-key-clause-fault : goal.returns-in_err-key-clause-fault
 returns-in_err-key-clause-fault c =
-    let p = err_from_is_err_and c.from_residual-in_err-key.result c.from_residual-in_err-key.ensures.1 in
+    let p = err_from_is_err_and c.from_residual.result c.from_residual.ensures.1 in
     rw (p.1, p.2) (fault_here (Between c.args.turns c.args.deck.now) c.args.line.now c.args.lines.now.rest.now (c.args.line.now ++ c.args.lines.now.rest.now) (c.args.lines.now.number - 1) c.in_err-key.field-0.0
     c.requires.line refl (c.in_err-key.ensures.fault c.args.turns))
 
