@@ -53,11 +53,14 @@ pub behind_letter : (class : Class) (text : List ℕ) (arg : Arg) → ArgText ar
 behind_letter class text (Int n) is formed = absurd (int_first n [] class text formed.in_range (append-nil (signed_decimal n) ∙ sym is))
 behind_letter class text (Double x) is formed = absurd (fixed_first x.0 [] class text formed.in_range (append-nil (fixed_text x.0) ∙ sym is))
 behind_letter class text (One c) is formed = inl (tail_is (class_letter class) (class_letter c) text [] is)
-behind_letter class text (Many c n) is formed = inr (is.digits, record {
-  whole = is.length_is.whole;
-  some = omega (arith, is.length_is.value, formed.has_length);
-  text_is = tail_is (class_letter class) (class_letter c) text (codes "[" ++ (is.digits ++ codes "]")) is.text_is;
-})
+behind_letter class text (Many c n) is formed = inr (
+  is.digits,
+  record {
+    whole = is.length_is.whole;
+    some = omega (arith, is.length_is.value, formed.has_length);
+    text_is = tail_is (class_letter class) (class_letter c) text (codes "[" ++ (is.digits ++ codes "]")) is.text_is;
+  },
+)
 
 pub one_read : (class : Class) (text : List ℕ) → text ≡ [] → ReadsArg (class_letter class ∷ text) (One class)
 one_read class text empty = record {

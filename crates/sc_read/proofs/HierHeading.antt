@@ -301,6 +301,7 @@ cut_name bytes name behind here none other inside named there =
   where
     byte_apart : (x : ℕ) → continues_name x ≡ true → x ≢ 40
     byte_apart x is same = true≢false (sym is ∙ ap continues_name same)
+
     no_open : (xs : List ℕ) → IsNameText xs → All (λ byte. byte ≢ 40) xs
     no_open [] named = absurd named
     no_open (x ∷ xs) named = at
@@ -308,6 +309,7 @@ cut_name bytes name behind here none other inside named there =
         at : (k d : ℕ) → k < length (x ∷ xs) → get_or (x ∷ xs) k d ≢ 40
         at zero d within = λ same. true≢false (sym named.0 ∙ ap begins_name same)
         at (suc k) d within = byte_apart (get_or xs k d) (named.1 k d (omega (arith, within)))
+
     cut_one_way : (xs ys m l : List ℕ) → All (λ byte. byte ≢ 40) xs → All (λ byte. byte ≢ 40) ys → xs ++ 40 ∷ m ≡ ys ++ 40 ∷ l → (xs ≡ ys) × (m ≡ l)
     cut_one_way [] [] m l a b e = (refl, tail_is 40 40 m l e)
     cut_one_way [] (y ∷ ys) m l a b e = absurd (b 0 0 (omega arith) (sym (head_is 40 y m (ys ++ 40 ∷ l) e)))

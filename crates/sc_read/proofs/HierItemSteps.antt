@@ -147,26 +147,37 @@ unfolding with_more_items
 limit_passed turns modules body line kept number (BadQasm n) begun r p key same = absurd p
 limit_passed turns modules body line kept number (TooManyInstances n) begun r p key same = absurd p
 limit_passed turns modules body line kept number Memory begun r p key same = tt
-limit_passed turns modules body line kept number (TooWide n) begun r p key same = (p.0, record {
-  next = Within turns modules (with_more_items key body r.item);
-  in_place = adds_item turns modules key body line kept same r;
-  passes = (omega (arith, p.1, ap (λ (z : Item). both (after_item (wires_of body) z)) r.kept_is, kept_less r.item (wires_of body), ap both (wires_pushed key body r.item same)), λ q. omega (arith, q, begun.room));
-})
+limit_passed turns modules body line kept number (TooWide n) begun r p key same = (
+  p.0,
+  record {
+    next = Within turns modules (with_more_items key body r.item);
+    in_place = adds_item turns modules key body line kept same r;
+    passes = (omega (arith, p.1, ap (λ (z : Item). both (after_item (wires_of body) z)) r.kept_is, kept_less r.item (wires_of body), ap both (wires_pushed key body r.item same)), λ q. omega (arith, q, begun.room));
+  },
+)
 limit_passed turns modules body line kept number (TooLong n) begun r p key same =
     let exact = kept_exact r.item (wires_of body) (subst (λ (z : Item). both (after_item (wires_of body) z) ≤ 65536) r.kept_is p.1) in
-    let narrow : both (after_item (wires_of body) r.item) ≤ 65536 = subst (λ (z : Item). both (after_item (wires_of body) z) ≤ 65536) (r.kept_is ∙ exact) p.1 in
-    (p.0, record {
-      next = Within turns modules (with_more_items key body r.item);
-      in_place = adds_item turns modules key body line kept same r;
-      passes = (omega (arith, p.2, length-append body.items (r.item ∷ [])), (λ q. omega (arith, q, begun.room)), (λ q. omega (arith, q, narrow, ap both (wires_pushed key body r.item same))));
-    })
+    let narrow : both (after_item (wires_of body) r.item) ≤ 65536 = subst (λ (z : Item). both (after_item (wires_of body) z) ≤ 65536) (r.kept_is ∙ exact) p.1 in (
+      p.0,
+      record {
+        next = Within turns modules (with_more_items key body r.item);
+        in_place = adds_item turns modules key body line kept same r;
+        passes = (omega (arith, p.2, length-append body.items (r.item ∷ [])), (λ q. omega (arith, q, begun.room)), (λ q. omega (arith, q, narrow, ap both (wires_pushed key body r.item same))));
+      },
+    )
 limit_passed turns modules body line kept number (TooDeep n) begun r p key same =
     let exact = kept_exact r.item (wires_of body) (subst (λ (z : Item). both (after_item (wires_of body) z) ≤ 65536) r.kept_is p.1) in
     let narrow : both (after_item (wires_of body) r.item) ≤ 65536 = subst (λ (z : Item). both (after_item (wires_of body) z) ≤ 65536) (r.kept_is ∙ exact) p.1 in
-    let deep : 256 ≤ greatest_called (heights_of modules) (r.item ∷ []) = subst (λ (z : Item). 256 ≤ greatest_called (heights_of modules) (z ∷ [])) (r.kept_is ∙ exact) p.3 in
-    (p.0, record {
-      next = Within turns modules (with_more_items key body r.item);
-      in_place = adds_item turns modules key body line kept same r;
-      passes = (omega (arith, deep, called_join (heights_of modules) body.items (r.item ∷ [])), (λ q. omega (arith, q, begun.room)),
-          (λ q. omega (arith, q, narrow, ap both (wires_pushed key body r.item same))), (λ q. omega (arith, q, p.2, length-append body.items (r.item ∷ []))));
-    })
+    let deep : 256 ≤ greatest_called (heights_of modules) (r.item ∷ []) = subst (λ (z : Item). 256 ≤ greatest_called (heights_of modules) (z ∷ [])) (r.kept_is ∙ exact) p.3 in (
+      p.0,
+      record {
+        next = Within turns modules (with_more_items key body r.item);
+        in_place = adds_item turns modules key body line kept same r;
+        passes = (
+          omega (arith, deep, called_join (heights_of modules) body.items (r.item ∷ [])),
+          (λ q. omega (arith, q, begun.room)),
+          (λ q. omega (arith, q, narrow, ap both (wires_pushed key body r.item same))),
+          (λ q. omega (arith, q, p.2, length-append body.items (r.item ∷ []))),
+        );
+      },
+    )

@@ -226,6 +226,7 @@ operands_more q c bytes rest (w ∷ ws) v after a b p here = record {
         let r = one_next_wire q c rest v u after (after_commas (map wire_text us) ++ codes "\n") a b here
         (record { joined = is ∙ append_assoc (44 ∷ wire_text u) (after_commas (map wire_text us)) (codes "\n"); there = there.0; ends = operands_end us }) in
         (us, all ∙ (ap (λ (z : Wire). (w ∷ ws) ++ z ∷ us) (sym r.0) ∙ sym (append_assoc (w ∷ ws) (v ∷ []) us)), there.1, r.1)
+
     only : (vs : List Wire) → AreThere (counts q c) vs → bytes ≡ wires_text vs ++ codes "\n" →
         (us : List Wire) × (vs ≡ ((w ∷ ws) ++ v ∷ []) ++ us) × AreThere (counts q c) us × (after ≡ after_commas (map wire_text us) ++ codes "\n")
     only vs there same = let r = p.only vs there same in split r.0 vs r.1 r.2 r.3

@@ -253,11 +253,12 @@ pub modules_whole : (turns : Bool) (text : List ℕ) (first : ℕ) (modules : Li
     IsReadWhole Goes MayEnd (Between turns []) text (Over now) × IsSound now
 modules_whole turns text first modules rest number now line before after m p there r whole empty =
     let whole_here : IsWhole (modules ++ m ∷ []) = subst IsWhole r.pushed whole in
-    let sound : IsSoundSoFar now = subst IsSoundSoFar (sym r.pushed) (sound_more modules m p.sound r.name r.short r.shallow) in
-    (subst (λ (z : List Module). IsReadWhole Goes MayEnd (Between turns []) text (Over z)) (sym r.pushed)
-      (read_whole Goes MayEnd (Between turns []) text first (Over (modules ++ m ∷ [])) after.rest.now after.number
-      (over_read turns text first modules rest number now line before after m p there r whole_here) empty tt),
-    record { whole = whole; names = sound.names; shallow = sound.shallow; short = sound.short })
+    let sound : IsSoundSoFar now = subst IsSoundSoFar (sym r.pushed) (sound_more modules m p.sound r.name r.short r.shallow) in (
+      subst (λ (z : List Module). IsReadWhole Goes MayEnd (Between turns []) text (Over z)) (sym r.pushed)
+          (read_whole Goes MayEnd (Between turns []) text first (Over (modules ++ m ∷ [])) after.rest.now after.number
+          (over_read turns text first modules rest number now line before after m p there r whole_here) empty tt),
+      record { whole = whole; names = sound.names; shallow = sound.shallow; short = sound.short },
+    )
 
 pub modules_none : (turns : Bool) (text : List ℕ) (first : ℕ) (modules : List Module) (rest : List ℕ) (number : ℕ) → ModulesSoFar turns text first modules rest number →
     ((line more : List ℕ) → IsLine line → rest ≡ line ++ more → ⊥) → IsFaultFrom (Between turns []) text first (BadQasm number)

@@ -186,10 +186,13 @@ begin_goes modules line kept body deck r new few narrow params empty = record {
   where
     same : kept ≡ r.key
     same = r.kept_is ∙ key_back r.key (subst (λ (z : Key). both (params_of z) ≤ 65536) r.kept_is narrow)
+
     same_module : record { key = r.key; items = [] } ≡ module_of kept body
     same_module = λ i. record { key = (sym same) i; items = (sym empty) i }
+
     true_narrow : both (params_of r.key) ≤ 65536
     true_narrow = subst (λ (z : Key). both (params_of z) ≤ 65536) same narrow
+
     no_limit : (turns : Bool) (limit : Limit) → Passes (Within turns modules (record { key = r.key; items = [] })) limit → ⊥
     no_limit turns Instances p = omega (arith, p, few)
     no_limit turns Wires p = omega (arith, p, true_narrow)
@@ -275,6 +278,7 @@ begin_past modules line kept q c qs cs deck r new few qs_is cs_is qubits cbits m
   where
     past : (class : Class) (others : List Arg) → others ≡ kept.args → 65536 < number_of class (fold with_arg no_wires others) → 65536 < number_of class (fold with_arg no_wires kept.args)
     past class others same is = subst (λ (z : List Arg). 65536 < number_of class (fold with_arg no_wires z)) same is
+
     true_wide : 65536 < both (params_of kept)
     true_wide = elim (leb_tells q 65536) [
       | inl le ↦ elim (leb_tells c 65536) [

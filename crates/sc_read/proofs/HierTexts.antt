@@ -257,9 +257,10 @@ arg_texts (Int n ∷ args) wires narrow = (refl, arg_texts args wires narrow)
 arg_texts (Double x ∷ args) wires narrow = (refl, arg_texts args wires narrow)
 arg_texts (One class ∷ args) wires narrow = (refl, arg_texts args (with_more class 1 wires) narrow)
 arg_texts (Many class n ∷ args) wires narrow =
-    let small : n ≤ 65536 = omega (arith, narrow, args_grow args (with_more class n wires), more_grows class n wires) in
-    (record { digits = decimal n; length_is = record { whole = decimal_whole n (omega (arith, small)); value = sym (decimal_value n (omega (arith, small))) }; text_is = refl },
-    arg_texts args (with_more class n wires) narrow)
+    let small : n ≤ 65536 = omega (arith, narrow, args_grow args (with_more class n wires), more_grows class n wires) in (
+      record { digits = decimal n; length_is = record { whole = decimal_whole n (omega (arith, small)); value = sym (decimal_value n (omega (arith, small))) }; text_is = refl },
+      arg_texts args (with_more class n wires) narrow,
+    )
 
 heading_goes : (turns : Bool) (done : List Module) (m : Module) → Stands turns done m → Goes (Between turns done) (heading_line (length done) m.key) (Within turns done (with_items m.key []))
 heading_goes turns done m p = record {

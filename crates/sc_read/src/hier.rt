@@ -17,7 +17,9 @@ ghost use Rattle.sc_read.specs.HierSteps.{IsLineFault, IsFaultFrom, IsEndFault, 
 
 use crate::item_line::{ItemLine, Step, item_of};
 use crate::signature::heading;
-use sc_base::{Class, Lines, MOST_DEPTH, MOST_INSTANCES, MOST_ITEMS, MOST_WIRES, Memory, take_text};
+use sc_base::{
+    Class, Lines, MOST_DEPTH, MOST_INSTANCES, MOST_ITEMS, MOST_WIRES, Memory, take_text,
+};
 use sc_deck::{Arg, Body, Deck, Key};
 use std::alloc::Global;
 

@@ -14,8 +14,8 @@ ghost use Rattle.sc_read.specs.HierFronts.{LengthFront, ReadsArg, ReadsArgs, Rea
 
 use crate::gate_line::take_class;
 use sc_base::{
-    Class, Fixed, List, Memory, Text, Whole, is_name_text, take_fixed, take_int, take_number, take_text,
-    take_whole,
+    Class, Fixed, List, Memory, Text, Whole, is_name_text, take_fixed, take_int, take_number,
+    take_text, take_whole,
 };
 use sc_deck::{Arg, Key};
 use std::alloc::Global;

@@ -7,7 +7,8 @@ use std::alloc::Global;
 use std::test::Fail;
 
 /// `g` with three turns of H, and main, which calls it twice.
-const REPEATED: &[u8] = b"hier 2\nmodule 0 g(q)\nqbit 1\nrepeat 3 H q1\nCNOT q1,q0\nend\nmodule 1 main()\nqbit 1\nrepeat 2 call 0 q0\nend\n";
+const REPEATED: &[u8] =
+    b"hier 2\nmodule 0 g(q)\nqbit 1\nrepeat 3 H q1\nCNOT q1,q0\nend\nmodule 1 main()\nqbit 1\nrepeat 2 call 0 q0\nend\n";
 
 fn read(alloc: Global, text: &[u8]) -> Result<Deck, HierFault> {
     if text.len() > 10_000_000 {
@@ -38,11 +39,26 @@ fn texts_in_the_grammar(rt: HostRuntime) -> Result<(), Fail> {
     for (text, count) in [
         ("hier 1\nmodule 0 main()\nend\n", 1),
         ("hier 2\nmodule 0 main()\nqbit 2\nCNOT q0,q1\nend\n", 1),
-        ("hier 1\nmodule 0 g(q)\nqbit 1\nH q1\nH q1\nH q1\nCNOT q1,q0\nend\nmodule 1 main()\nqbit 1\ncall 0 q0\ncall 0 q0\nend\n", 2),
-        ("hier 1\nmodule 0 f(q,c,q[2],c[3],-7,0.500000000000,-0.000000000001)\nX q2\nMeasX q0,c3\nend\nmodule 1 main()\nqbit 3\ncbit 4\ncall 0 q2,c0,q0,q1,c1,c2,c3\nend\n", 2),
-        ("hier 1\nmodule 0 f(1)\nqbit 1\nend\nmodule 1 f(2)\nqbit 1\nH q0\nend\nmodule 2 main()\ncall 1\ncall 0\ncall 1\nend\n", 3),
-        ("hier 1\nmodule 0 main(0)\nend\nmodule 1 main()\ncall 0\nend\n", 2),
-        ("hier 2\nmodule 0 qbit(q)\nend\nmodule 1 main()\nqbit 65536\nrepeat 18446744073709551615 call 0 q65535\nend\n", 2),
+        (
+            "hier 1\nmodule 0 g(q)\nqbit 1\nH q1\nH q1\nH q1\nCNOT q1,q0\nend\nmodule 1 main()\nqbit 1\ncall 0 q0\ncall 0 q0\nend\n",
+            2,
+        ),
+        (
+            "hier 1\nmodule 0 f(q,c,q[2],c[3],-7,0.500000000000,-0.000000000001)\nX q2\nMeasX q0,c3\nend\nmodule 1 main()\nqbit 3\ncbit 4\ncall 0 q2,c0,q0,q1,c1,c2,c3\nend\n",
+            2,
+        ),
+        (
+            "hier 1\nmodule 0 f(1)\nqbit 1\nend\nmodule 1 f(2)\nqbit 1\nH q0\nend\nmodule 2 main()\ncall 1\ncall 0\ncall 1\nend\n",
+            3,
+        ),
+        (
+            "hier 1\nmodule 0 main(0)\nend\nmodule 1 main()\ncall 0\nend\n",
+            2,
+        ),
+        (
+            "hier 2\nmodule 0 qbit(q)\nend\nmodule 1 main()\nqbit 65536\nrepeat 18446744073709551615 call 0 q65535\nend\n",
+            2,
+        ),
     ] {
         assert_eq!(rt; bodies(rt.alloc(), text.as_bytes())?, count);
     }
@@ -71,8 +87,14 @@ fn bad_lines_of_repeats(rt: HostRuntime) {
         ("hier 1\nmodule 0 g(q)\nqbit 1\nrepeat 3 H q1\nend\n", 4),
         ("hier 2\nmodule 0 g(q)\nqbit 1\nrepeat 1 H q1\nend\n", 4),
         ("hier 2\nmodule 0 g(q)\nrepeat 2 qbit 1\nend\n", 3),
-        ("hier 2\nmodule 0 g(q)\nqbit 1\nrepeat 18446744073709551616 H q1\nend\n", 4),
-        ("hier 2\nmodule 0 g(q)\nend\nmodule 1 main()\nqbit 1\nrepeat 2 repeat 2 call 0 q0\nend\n", 6),
+        (
+            "hier 2\nmodule 0 g(q)\nqbit 1\nrepeat 18446744073709551616 H q1\nend\n",
+            4,
+        ),
+        (
+            "hier 2\nmodule 0 g(q)\nend\nmodule 1 main()\nqbit 1\nrepeat 2 repeat 2 call 0 q0\nend\n",
+            6,
+        ),
         ("hier 2\nmodule 0 g(q)\nrepeat 2 end\n", 3),
         ("hier 2\nmodule 0 g(q)\nrepeat 3  H q0\n", 3),
         ("hier 2\nmodule 0 g(q)\nrepeat 03 H q0\n", 3),
@@ -86,9 +108,15 @@ fn bad_lines_of_repeats(rt: HostRuntime) {
 fn bad_lines_of_modules(rt: HostRuntime) {
     for (text, line) in [
         ("hier 1\nmodule 0 f(1)\nend\nmodule 1 f(1)\nend\n", 4),
-        ("hier 1\nmodule 0 f()\nend\nmodule 1 g()\nend\nmodule 2 main()\ncall 0\nend\n", 8),
+        (
+            "hier 1\nmodule 0 f()\nend\nmodule 1 g()\nend\nmodule 2 main()\ncall 0\nend\n",
+            8,
+        ),
         ("hier 1\nmodule 0 f()\ncall 0\nend\n", 3),
-        ("hier 1\nmodule 0 f()\ncall 1\nend\nmodule 1 main()\nend\n", 3),
+        (
+            "hier 1\nmodule 0 f()\ncall 1\nend\nmodule 1 main()\nend\n",
+            3,
+        ),
         ("hier 1\nmodule 0 main()\nend\nmodule 1 f()\nend\n", 4),
         ("hier 1\nmodule 0 f(q[0])\nend\n", 2),
         ("hier 1\nmodule 0 f(-0)\nend\n", 2),
@@ -119,11 +147,26 @@ fn bad_signatures(rt: HostRuntime) {
 #[test]
 fn limits_on_wires(rt: HostRuntime) {
     for (text, answer) in [
-        ("hier 1\nmodule 0 main()\nqbit 65537\nend\n", HierFault::TooWide(3)),
-        ("hier 1\nmodule 0 f(q[2])\nqbit 65535\nend\n", HierFault::TooWide(3)),
-        ("hier 1\nmodule 0 f(q[65536],c)\nend\n", HierFault::TooWide(2)),
-        ("hier 1\nmodule 0 f(q[99999999999999999999999999999999999999999999999999999999999999999999999])\nend\n", HierFault::TooWide(2)),
-        ("hier 1\nmodule 0 main()\ncbit 99999999999999999999999999999999999999999999999999999999999999999999999\nend\n", HierFault::TooWide(3)),
+        (
+            "hier 1\nmodule 0 main()\nqbit 65537\nend\n",
+            HierFault::TooWide(3),
+        ),
+        (
+            "hier 1\nmodule 0 f(q[2])\nqbit 65535\nend\n",
+            HierFault::TooWide(3),
+        ),
+        (
+            "hier 1\nmodule 0 f(q[65536],c)\nend\n",
+            HierFault::TooWide(2),
+        ),
+        (
+            "hier 1\nmodule 0 f(q[99999999999999999999999999999999999999999999999999999999999999999999999])\nend\n",
+            HierFault::TooWide(2),
+        ),
+        (
+            "hier 1\nmodule 0 main()\ncbit 99999999999999999999999999999999999999999999999999999999999999999999999\nend\n",
+            HierFault::TooWide(3),
+        ),
         ("hier 1\nmodule 0 main()\nqbit 65537", HierFault::BadQasm(3)),
         ("hier 1\nmodule 1 f(q[65537])\nend\n", HierFault::BadQasm(2)),
     ] {

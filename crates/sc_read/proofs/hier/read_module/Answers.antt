@@ -32,10 +32,11 @@ push_body-requires c =
 pub returns-clause-ok : goal.returns-clause-ok
 returns-clause-ok c =
     let b : Begins c.args.deck.now c.args.line.now c.in_ok-key.key c.in_ok-key.body = c.in_ok-key.ensures.ok in
-    let r : ItemsRead c.args.turns c.args.deck.now c.in_ok-key.body c.read_items.new.body c.args.lines.now c.read_items.new.lines = c.in_ok-read_items.ensures.ok in
-    (module_of c.in_ok-key.key c.read_items.new.body,
+    let r : ItemsRead c.args.turns c.args.deck.now c.in_ok-key.body c.read_items.new.body c.args.lines.now c.read_items.new.lines = c.in_ok-read_items.ensures.ok in (
+      module_of c.in_ok-key.key c.read_items.new.body,
       module_read c.args.turns c.args.deck.now c.push_body.new.self c.args.line.now (c.args.lines.now.number - 1) c.args.lines.now c.read_items.new.lines c.in_ok-key.key c.in_ok-key.body c.read_items.new.body
-      c.requires.line b r (omega (arith, c.requires.number)) c.in_ok-push_body.ensures.pushed)
+          c.requires.line b r (omega (arith, c.requires.number)) c.in_ok-push_body.ensures.pushed,
+    )
 
 pub returns-clause-main : goal.returns-clause-main
 returns-clause-main c =
