@@ -1,23 +1,21 @@
 -- Signatures in the first lines of modules, part by part.
-use Rattle.std.proofs.Common.{◌≡◌, ◌≢◌, ℕ, zero, suc, ◌+◌, ◌<◌, ◌≤◌, ◌^◌, ℤ, pos, negsuc, FitsSigned, w64, List, [], ◌∷◌, ◌++◌, map, length, get_or, refl, sym, ap, ◌∙◌, subst, arith, append_assoc, append-nil, inl, inr, min}
-use Rattle.std.specs.Prelude.{decimal, codes, All, ◌⊎◌}
+use Rattle.std.proofs.Common.{◌≡◌, ℕ, suc, ◌<◌, ◌≤◌, ℤ, pos, negsuc, FitsSigned, w64, List, [], ◌∷◌, ◌++◌, length, refl, sym, ap, ◌∙◌, arith, append-nil, inl, inr, min}
+use Rattle.std.specs.Prelude.{decimal, codes, ◌⊎◌}
 use Rattle.std.specs.Fmt.{signed_decimal}
 use Rattle.std.specs.Str.Parse.{AllDigits, digits_value}
-use Rattle.std.proofs.Math.Nat.{min-eq_left, min-eq_right}
 use Rattle.std.proofs.lemmas.Str.Parse.{digit_from_value}
 use Rattle.sc_base.specs.Decimals.{fixed_text}
-use Rattle.sc_base.specs.Numerals.{EndsNumber, IsWhole, WholeFront, IsValueOf, IntFront, FixedFront}
-use Rattle.sc_base.specs.declared.reader.Whole.TheVariants.{Fits, Past}
+use Rattle.sc_base.specs.Numerals.{IsWhole, WholeFront, IsValueOf, IntFront}
+use Rattle.sc_base.specs.declared.reader.Whole.TheVariants.{Fits}
 use Rattle.sc_base.specs.declared.names.Class.{Class}
-use Rattle.sc_base.specs.declared.names.Class.TheVariants.{Q, C}
 use Rattle.sc_base.specs.declared.names.Fixed.{Fixed}
 use Rattle.sc_base.proofs.FixedLemmas.{fixed_one_way}
-use Rattle.sc_base.proofs.NumeralLemmas.{head_is, tail_is, append_cancel, whole_one_way, decimal_digits, decimal_value, decimal_whole, number_unique, int_one_way}
+use Rattle.sc_base.proofs.NumeralLemmas.{tail_is, append_cancel, whole_one_way, decimal_digits, decimal_value, decimal_whole, int_one_way}
 use Rattle.sc_gate.specs.Lines.{class_letter}
 use Rattle.sc_deck.specs.declared.key.Arg.{Arg}
 use Rattle.sc_deck.specs.declared.key.Arg.TheVariants.{Int, Double, One, Many}
-use Rattle.sc_read.specs.HierLines.{ArgText, ArrayText, IsFormedArg, IsNumeralOf}
-use Rattle.sc_read.specs.HierFronts.{cut_arg, cut_number, LengthFront, ReadsArg}
+use Rattle.sc_read.specs.HierLines.{ArgText, IsFormedArg}
+use Rattle.sc_read.specs.HierFronts.{cut_number, LengthFront, ReadsArg}
 use Rattle.sc_read.proofs.GateParts.{fixed_first, not_letter}
 
 -- LENGTHS

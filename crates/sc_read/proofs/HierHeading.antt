@@ -1,5 +1,5 @@
 -- Signatures as a whole: the parts between commas, and the first lines of modules.
-use Rattle.std.proofs.Common.{◌≡◌, ◌≢◌, ℕ, zero, suc, ◌+◌, ◌/◌, ◌%◌, ◌<◌, ◌≤◌, ◌^◌, Bool, true, false, nat_eq, true≢false, ℤ, pos, negsuc, FitsSigned, w64, List, [], ◌∷◌, ◌++◌, map, length, get_or, refl, sym, ap, ◌∙◌, subst, arith, append_assoc, append-nil, length-append, Option, Some, None}
+use Rattle.std.proofs.Common.{◌≡◌, ◌≢◌, ℕ, zero, suc, ◌+◌, ◌/◌, ◌%◌, ◌<◌, ◌^◌, true, false, nat_eq, true≢false, ℤ, pos, negsuc, FitsSigned, w64, List, [], ◌∷◌, ◌++◌, map, length, get_or, refl, sym, ap, ◌∙◌, subst, arith, append_assoc, append-nil, length-append, Option, Some, None}
 use Rattle.std.specs.Prelude.{decimal, codes, All, IfSome, IfNone, is_some}
 use Rattle.std.specs.Fmt.{signed_decimal}
 use Rattle.std.specs.List.{AllByRecursion, join_with_byte, slice_split}
@@ -21,7 +21,7 @@ use Rattle.sc_gate.specs.Lines.{class_letter}
 use Rattle.sc_deck.specs.declared.key.Arg.{Arg}
 use Rattle.sc_deck.specs.declared.key.Arg.TheVariants.{Int, Double, One, Many}
 use Rattle.sc_deck.specs.declared.key.Key.{Key}
-use Rattle.sc_read.specs.HierLines.{ArgText, ArrayText, ArgTexts, IsFormedArg, IsFormedKey, IsHeading, SignatureText}
+use Rattle.sc_read.specs.HierLines.{ArgText, ArrayText, ArgTexts, IsFormedArg, IsFormedKey, IsHeading}
 use Rattle.sc_read.proofs.GateParts.{fixed_first}
 use Rattle.sc_read.proofs.HierArgs.{int_first}
 use Rattle.sc_read.specs.HierFronts.{cut_arg, cut_key, parts_of, ReadsArg, ReadsArgs, ReadsHeading}

@@ -1,16 +1,14 @@
 -- One more item of a module: in its place and within the limits, or the first limit that it passes.
-use Rattle.std.proofs.Common.{◌≡◌, ◌≢◌, ℕ, ◌+◌, ◌<◌, ◌≤◌, Bool, max, List, [], ◌∷◌, ◌++◌, map, length, refl, sym, ap, ◌∙◌, subst, arith, inl, inr, length-append}
+use Rattle.std.proofs.Common.{◌≡◌, ◌≢◌, ℕ, ◌≤◌, Bool, max, List, [], ◌∷◌, ◌++◌, map, refl, sym, ap, ◌∙◌, subst, arith, inl, inr, length-append}
 use Rattle.std.specs.Prelude.{codes, slice_index}
-use Rattle.std.specs.List.{AllByRecursion}
 use Rattle.std.proofs.Math.Nat.{min-le_left}
 use Rattle.std.proofs.lemmas.List.{map-append}
 use Rattle.std.proofs.lemmas.List.Elements.{filter_map-append}
-use Rattle.sc_base.specs.declared.names.Class.{Class}
 use Rattle.sc_gate.specs.Numbers.{Numbers, both}
 use Rattle.sc_deck.specs.declared.item.Item.{Item}
 use Rattle.sc_deck.specs.declared.item.Item.TheVariants as item
 use Rattle.sc_deck.specs.declared.key.Key.{Key}
-use Rattle.sc_deck.specs.Bodies.{Contents, wires_of, with_item, after_items}
+use Rattle.sc_deck.specs.Bodies.{Contents, wires_of, with_item}
 use Rattle.sc_deck.specs.Decks.{CallsFit, ItemCallFits}
 use Rattle.sc_deck.specs.Items.{callee_of, callees_of, after_item}
 use Rattle.sc_deck.specs.Keys.{params_of}
@@ -19,13 +17,11 @@ use Rattle.sc_deck.proofs.BodyLemmas.{after_items-push}
 use Rattle.sc_deck.proofs.CalleeLemmas.{greatest-append}
 use Rattle.sc_read.specs.declared.hier.HierFault.{HierFault}
 use Rattle.sc_read.specs.declared.hier.HierFault.TheVariants.{BadQasm, TooWide, TooLong, TooDeep, TooManyInstances, Memory}
-use Rattle.sc_read.specs.declared.item_line.Step.{Step}
 use Rattle.sc_read.specs.declared.item_line.Step.TheVariants.{Apply, Enter}
 use Rattle.sc_read.specs.declared.item_line.ItemLine.{ItemLine}
 use Rattle.sc_read.specs.declared.item_line.ItemLine.TheVariants.{Fresh, Once, Repeated}
-use Rattle.sc_read.specs.HierLines.{ItemText}
 use Rattle.sc_read.specs.HierFronts.{cut_number, cut_item, kept_item, ReadsItem}
-use Rattle.sc_read.specs.HierStages.{Stage, Between, Within, Limit, Instances, Wires, Items, Depth, IsNextItem, AddsItem, EndsModule, EndsText, InPlace, Passes, PassesFirst, Goes, Breaks}
+use Rattle.sc_read.specs.HierStages.{Stage, Within, Limit, Instances, Wires, Items, Depth, IsNextItem, InPlace, Passes, Goes}
 use Rattle.sc_read.specs.HierSteps.{IsBegun, IsLimitFault, IsLineFault, IsWithinLimit, GoesOn, module_of}
 use Rattle.sc_read.proofs.HierModules.{more_grows, cut_back}
 

@@ -1,12 +1,11 @@
 -- Lines of items, part by part.
-use Rattle.std.proofs.Common.{◌≡◌, ◌≢◌, ℕ, zero, suc, ◌+◌, ◌<◌, ◌≤◌, ◌^◌, Bool, true, false, true≢false, List, [], ◌∷◌, ◌++◌, map, length, refl, sym, ap, ◌∙◌, subst, arith, append_assoc, append-nil, Option, Some, None, get_or}
+use Rattle.std.proofs.Common.{◌≡◌, ℕ, ◌<◌, ◌≤◌, ◌^◌, Bool, true, false, true≢false, List, [], ◌∷◌, ◌++◌, map, length, refl, sym, ap, ◌∙◌, subst, arith, append_assoc, append-nil, Option, Some, None, get_or}
 use Rattle.std.specs.Prelude.{decimal, codes, IfSome, IfNone, is_some}
-use Rattle.std.specs.List.{AllByRecursion, join_with_byte}
+use Rattle.std.specs.List.{AllByRecursion}
 use Rattle.std.specs.Option.{unwrap_or}
 use Rattle.std.specs.Str.Parse.{digits_value}
 use Rattle.std.proofs.lemmas.Option.{unwrap_or-slice_get}
 use Rattle.sc_base.specs.Numerals.{EndsNumber, WholeFront}
-use Rattle.sc_base.specs.GateNames.{gate_text}
 use Rattle.sc_base.specs.declared.names.Class.{Class}
 use Rattle.sc_base.specs.declared.names.Class.TheVariants.{Q, C}
 use Rattle.sc_base.proofs.NumeralLemmas.{head_is, tail_is, append_cancel, whole_one_way, number_unique}
@@ -15,8 +14,8 @@ use Rattle.sc_gate.specs.declared.gate.Wire.{Wire}
 use Rattle.sc_gate.specs.Gates.{name_of, operands, class_of, AreDistinct}
 use Rattle.sc_gate.specs.Lines.{wire_text, after_commas, gate_line}
 use Rattle.sc_gate.specs.Numbers.{Numbers, IsThere, AreThere}
-use Rattle.sc_gate.specs.Texts.{HasLine, IsNumbered}
-use Rattle.sc_gate.proofs.LineLemmas.{joined_by_commas, after_commas-append}
+use Rattle.sc_gate.specs.Texts.{IsNumbered}
+use Rattle.sc_gate.proofs.LineLemmas.{joined_by_commas}
 use Rattle.sc_gate.proofs.TextLemmas.{line_one_way}
 use Rattle.sc_deck.specs.declared.item.Item.{Item}
 use Rattle.sc_deck.specs.declared.item.Item.TheVariants as item
@@ -26,18 +25,18 @@ use Rattle.sc_deck.specs.Keys.{param_classes}
 use Rattle.sc_deck.specs.Repeats.{StandsEarlier}
 use Rattle.sc_deck.proofs.DeckLemmas.{callee_there}
 use Rattle.sc_deck.proofs.FormedLaws.{place_of_wire}
-use Rattle.sc_deck.specs.Hierarchical.{fresh_word, wires_text, call_line, repeat_line, item_line}
+use Rattle.sc_deck.specs.Hierarchical.{fresh_word, wires_text, call_line, repeat_line}
 use Rattle.sc_deck.specs.Modules.{Module}
 use Rattle.sc_read.specs.declared.item_line.Step.{Step}
 use Rattle.sc_read.specs.declared.item_line.Step.TheVariants.{Apply, Enter}
-use Rattle.sc_read.specs.GateFronts.{counts, IsNextGate, GateFront, WireFront, NextWireFront}
-use Rattle.sc_read.specs.HierLines.{FreshText, ItemText}
+use Rattle.sc_read.specs.GateFronts.{counts, GateFront, WireFront, NextWireFront}
+use Rattle.sc_read.specs.HierLines.{ItemText}
 use Rattle.sc_read.specs.HierStages.{IsNextItem}
 use Rattle.sc_read.specs.declared.item_line.ItemLine.{ItemLine}
 use Rattle.sc_read.specs.declared.item_line.ItemLine.TheVariants.{Fresh, Once, Repeated}
-use Rattle.sc_read.specs.HierFronts.{cut_number, LengthFront, ReadsFresh, ReadsStep, ReadsItem, step_item}
+use Rattle.sc_read.specs.HierFronts.{cut_number, LengthFront, ReadsFresh, ReadsStep, ReadsItem}
 use Rattle.sc_read.proofs.GateParts.{one_wire, one_next_wire, wire_numbered, line_in_parts}
-use Rattle.sc_read.proofs.FlatBody.{first_byte, first_is, first_large, first_small}
+use Rattle.sc_read.proofs.FlatBody.{first_byte, first_is, first_small}
 
 -- FRESH WIRES
 pub no_fresh_word : (line : List ℕ) → ((more : List ℕ) → line ≡ codes "qbit " ++ more → ⊥) → ((more : List ℕ) → line ≡ codes "cbit " ++ more → ⊥) →

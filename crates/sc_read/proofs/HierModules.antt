@@ -1,5 +1,5 @@
 -- Modules of hierarchical texts, as they begin.
-use Rattle.std.proofs.Common.{◌≡◌, ◌≢◌, ℕ, zero, suc, ◌+◌, ◌-◌, ◌<◌, ◌≤◌, Bool, List, [], ◌∷◌, ◌++◌, map, fold, length, take, get_or, slice_get, refl, sym, ap, ◌∙◌, subst, arith, inl, inr, Option, Some, None, min, All, length-append}
+use Rattle.std.proofs.Common.{◌≡◌, ℕ, zero, suc, ◌+◌, ◌-◌, ◌<◌, ◌≤◌, Bool, List, [], ◌∷◌, ◌++◌, map, fold, length, take, get_or, slice_get, refl, sym, ap, ◌∙◌, subst, arith, inl, inr, Some, None, All, length-append}
 use Rattle.std.specs.List.{AllByRecursion}
 use Rattle.std.specs.Option.{option_map}
 use Rattle.std.proofs.Math.Nat.{min-eq_left, min-eq_right}
@@ -14,7 +14,7 @@ use Rattle.sc_deck.specs.declared.item.Item.TheVariants as item
 use Rattle.sc_deck.specs.declared.key.Arg.{Arg}
 use Rattle.sc_deck.specs.declared.key.Arg.TheVariants.{Int, Double, One, Many}
 use Rattle.sc_deck.specs.declared.key.Key.{Key}
-use Rattle.sc_deck.specs.Bodies.{Contents, IsBody, after_items, wires_of, empty_body}
+use Rattle.sc_deck.specs.Bodies.{Contents, IsBody, after_items, empty_body}
 use Rattle.sc_base.specs.NameTexts.{IsNameText}
 use Rattle.sc_deck.specs.Decks.{IsDeck, IsNewKey, CallsFit}
 use Rattle.sc_deck.specs.Items.{after_item}
@@ -22,7 +22,7 @@ use Rattle.sc_deck.specs.Keys.{params_of, with_arg, HasLength, HasLengths, main_
 use Rattle.sc_deck.specs.Modules.{Module, key_of, body_of, heights_of, greatest_called}
 use Rattle.sc_read.specs.HierLines.{IsFormedArg}
 use Rattle.sc_read.specs.HierFronts.{cut_number, cut_arg, cut_key, ReadsHeading}
-use Rattle.sc_read.specs.HierStages.{Stage, Between, Within, Limit, Instances, Wires, Items, Depth, InPlace, Passes, Goes, Breaks}
+use Rattle.sc_read.specs.HierStages.{Stage, Between, Within, Limit, Instances, Wires, Items, Depth, InPlace, Passes, Breaks}
 use Rattle.sc_read.specs.HierSteps.{Begins, EndsWithMain, module_of}
 use Rattle.sc_read.proofs.HierHeading.{one_key}
 

@@ -1,7 +1,6 @@
 -- Lines of hierarchical texts lead one way: a line leads to one stage, or passes one limit first.
-use Rattle.std.proofs.Common.{◌≡◌, ◌≢◌, ℕ, ◌+◌, ◌-◌, ◌<◌, ◌≤◌, ◌^◌, Bool, true, false, List, [], ◌∷◌, ◌++◌, map, length, slice_get, Option, Some, FitsSigned, w64, refl, sym, ap, ◌∙◌, subst, arith, inl, inr, ◌⊎◌, append_assoc, length-append}
+use Rattle.std.proofs.Common.{◌≡◌, ◌≢◌, ℕ, ◌<◌, ◌≤◌, ◌^◌, Bool, true, false, List, [], ◌∷◌, ◌++◌, map, length, FitsSigned, w64, refl, sym, ap, ◌∙◌, subst, arith, inl, inr, ◌⊎◌, append_assoc}
 use Rattle.std.specs.Prelude.{decimal, codes}
-use Rattle.std.specs.Option.{option_map}
 use Rattle.std.specs.Str.Parse.{digits_value}
 use Rattle.std.proofs.lemmas.Bool.Decides.{leb_tells}
 use Rattle.sc_base.specs.Lines.{IsFirstBad, IsFirstBreak, LeadsOneWay}
@@ -12,7 +11,7 @@ use Rattle.sc_base.proofs.TextLines.{one_reading, whole_not_bad, whole_not_broke
 use Rattle.sc_gate.specs.declared.gate.Gate.{Gate}
 use Rattle.sc_gate.specs.declared.gate.Wire.{Wire}
 use Rattle.sc_gate.specs.Gates.{operands}
-use Rattle.sc_gate.specs.Lines.{wire_text, after_commas, gate_line, number_line}
+use Rattle.sc_gate.specs.Lines.{wire_text, after_commas, gate_line}
 use Rattle.sc_gate.specs.Numbers.{Numbers, AreThere, both}
 use Rattle.sc_gate.specs.SameGates.{value_of}
 use Rattle.sc_gate.specs.Texts.{HasLine}
@@ -21,11 +20,11 @@ use Rattle.sc_deck.specs.declared.item.Item.{Item}
 use Rattle.sc_deck.specs.declared.item.Item.TheVariants as item
 use Rattle.sc_deck.specs.declared.key.Key.{Key}
 use Rattle.sc_deck.specs.Bodies.{wires_of}
-use Rattle.sc_deck.specs.Decks.{CallFits, IsWhole}
+use Rattle.sc_deck.specs.Decks.{CallFits}
 use Rattle.sc_deck.specs.Hierarchical.{fresh_word, wires_text, call_line, repeat_line}
 use Rattle.sc_deck.specs.Items.{GateFits}
-use Rattle.sc_deck.specs.Keys.{main_key, params_of}
-use Rattle.sc_deck.specs.Modules.{Module, key_of, body_of}
+use Rattle.sc_deck.specs.Keys.{params_of}
+use Rattle.sc_deck.specs.Modules.{Module, body_of}
 use Rattle.sc_deck.proofs.BodyLemmas.{after_items-push}
 use Rattle.sc_read.specs.declared.hier.HierFault.{HierFault}
 use Rattle.sc_read.specs.declared.hier.HierFault.TheVariants.{BadQasm, TooWide, TooLong, TooDeep, TooManyInstances, Memory}

@@ -1,7 +1,6 @@
 -- The hierarchical text of a list of modules is read line by line as this list, and what is read so is the text of its modules.
-use Rattle.std.proofs.Common.{◌≡◌, ◌≢◌, ℕ, ◌+◌, ◌-◌, ◌<◌, ◌≤◌, ◌^◌, Bool, true, false, ◌||◌, true≢false, List, [], ◌∷◌, ◌++◌, map, fold, length, get_or, slice_get, Option, Some, None, All, AllPairs, refl, sym, ap, ◌∙◌, subst, arith, inl, inr, ◌⊎◌, append_assoc, append-nil, length-append}
+use Rattle.std.proofs.Common.{◌≡◌, ◌≢◌, ℕ, ◌+◌, ◌-◌, ◌<◌, ◌≤◌, ◌^◌, Bool, true, false, ◌||◌, true≢false, List, [], ◌∷◌, ◌++◌, map, fold, length, get_or, Some, None, All, AllPairs, refl, sym, ap, ◌∙◌, subst, arith, inl, inr, ◌⊎◌, append_assoc, append-nil, length-append}
 use Rattle.std.specs.Prelude.{decimal, codes, flat_map}
-use Rattle.std.specs.Fmt.{signed_decimal}
 use Rattle.std.specs.List.{AllByRecursion, list_any, join_with_byte}
 use Rattle.std.specs.Option.{option_map}
 use Rattle.std.specs.Str.Parse.{digits_value}
@@ -11,7 +10,6 @@ use Rattle.std.proofs.lemmas.List.{get_or-map, length-map}
 use Rattle.std.proofs.lemmas.List.Concat.{flat_map-append}
 use Rattle.std.proofs.lemmas.List.Elements.{recursion_from_All}
 use Rattle.std.proofs.lemmas.Option.{slice_get_cases}
-use Rattle.sc_base.specs.Decimals.{fixed_text}
 use Rattle.sc_base.specs.Lines.{IsLine, joined, GoThrough}
 use Rattle.sc_base.specs.NameTexts.{IsNameText, begins_name, continues_name}
 use Rattle.sc_base.specs.declared.names.Class.{Class}
@@ -31,14 +29,13 @@ use Rattle.sc_deck.specs.declared.key.Arg.TheVariants.{Int, Double, One, Many}
 use Rattle.sc_deck.specs.declared.key.Key.{Key}
 use Rattle.sc_deck.specs.Bodies.{after_items, wires_of, ItemsFit}
 use Rattle.sc_deck.specs.Decks.{CallsFit, CallEarlier, ItemCallFits, IsNewKey, IsDeck, IsWhole}
-use Rattle.sc_deck.specs.Hierarchical.{arg_text, signature, wires_text, call_line, fresh_word, repeat_line, item_line, module_text, modules_text, hier_text, hier, have_turns, AreProper, IsWithinLimits, IsHier, IsSound}
+use Rattle.sc_deck.specs.Hierarchical.{arg_text, signature, wires_text, call_line, fresh_word, repeat_line, item_line, modules_text, hier_text, hier, have_turns, AreProper, IsWithinLimits, IsHier, IsSound}
 use Rattle.sc_deck.specs.Items.{after_item, ItemFits, ItemInRange}
 use Rattle.sc_deck.specs.Keys.{params_of, with_arg, HasLength, HasLengths, ArgInRange, main_key}
 use Rattle.sc_deck.specs.Modules.{Module, key_of, body_of, from_earlier, heights_of, height_over}
 use Rattle.sc_deck.specs.Turns.{has_turns}
 use Rattle.sc_deck.proofs.BodyLemmas.{after_items-push}
 use Rattle.sc_deck.proofs.EarlierLaws.{from_earlier-extends}
-use Rattle.sc_deck.proofs.EarlierLemmas.{from_earlier-push}
 use Rattle.sc_deck.proofs.TextLaws.{All-front, IsProper-sound, IsWithinLimits-sound, IsHier-sound}
 use Rattle.sc_read.specs.HierLines.{ArgText, ArgTexts, IsFormedArg, IsHeading, ItemText}
 use Rattle.sc_read.specs.HierReads.{IsHierText}

@@ -1,7 +1,7 @@
 -- What the reader of hierarchical texts keeps while it goes on from line to line.
 use Rattle.std.specs.Prelude.{◌≡◌, ◌≢◌, ℕ, ◌+◌, ◌-◌, ◌<◌, ◌≤◌, ◌⊎◌, Bool, Some, List, [], ◌∷◌, ◌++◌, length, slice_get, All, codes}
 use Rattle.std.specs.Option.{option_map}
-use Rattle.sc_base.specs.Lines.{IsLine, ReadTo, IsFirstBad, IsFirstBreak}
+use Rattle.sc_base.specs.Lines.{ReadTo, IsFirstBad, IsFirstBreak}
 use Rattle.sc_base.specs.declared.lines.Lines.{Lines}
 use Rattle.sc_base.specs.NameTexts.{IsNameText}
 use Rattle.sc_deck.specs.declared.key.Key.{Key}
@@ -14,7 +14,7 @@ use Rattle.sc_deck.specs.Keys.{params_of, HasLengths, main_key}
 use Rattle.sc_deck.specs.Modules.{Module, key_of, heights_of, height_over, greatest_called}
 use Rattle.sc_read.specs.declared.hier.HierFault.{HierFault}
 use Rattle.sc_read.specs.declared.hier.HierFault.TheVariants.{BadQasm, TooWide, TooLong, TooDeep, TooManyInstances, Memory}
-use Rattle.sc_read.specs.HierStages.{Stage, Between, Within, Limit, Instances, Wires, Items, Depth, InPlace, Goes, Breaks, MayEnd}
+use Rattle.sc_read.specs.HierStages.{Stage, Between, Within, Instances, Wires, Items, Depth, InPlace, Goes, Breaks, MayEnd}
 
 -- a key with the items of a body
 abbrev pub module_of : Key → Contents → Module

@@ -1,4 +1,4 @@
-use Rattle.std.proofs.Common.{◌++◌, List, [], length, ap, arith, length-append}
+use Rattle.std.proofs.Common.{[], length, ap, arith, length-append}
 use Rattle.std.specs.Prelude.{codes}
 use Rattle.sc_gate.specs.Lines.{number_line}
 use Rattle.sc_read.specs.HierStages.{Title, Between, Over, version_of}

@@ -1,9 +1,7 @@
-use Rattle.std.proofs.Common.{◌≡◌, ◌+◌, ◌-◌, ◌<◌, ◌≤◌, ℕ, length, sym, subst, arith, rules}
+use Rattle.std.proofs.Common.{◌≡◌, ◌-◌, ℕ, sym, subst, arith, rules}
 use Rattle.std.specs.Prelude.{codes}
 use Rattle.std.proofs.lemmas.Result.{err_from_is_err_and}
 use Rattle.sc_base.specs.declared.lines.Lines.{Lines}
-use Rattle.sc_deck.specs.declared.key.Key.{Key}
-use Rattle.sc_deck.specs.Keys.{params_of}
 use Rattle.sc_read.specs.declared.hier.HierFault.TheVariants.{BadQasm}
 use Rattle.sc_read.specs.HierStages.{Within}
 use Rattle.sc_read.specs.HierSteps.{IsFaultFrom, IsLineFault, module_of}

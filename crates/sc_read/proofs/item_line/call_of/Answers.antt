@@ -1,4 +1,4 @@
-use Rattle.std.proofs.Common.{◌≡◌, ◌≤◌, true, false, List, length, sym, ap, ◌∙◌, subst, arith, rules, true≢false, Some}
+use Rattle.std.proofs.Common.{◌≡◌, ◌≤◌, true, false, List, length, sym, ◌∙◌, subst, arith, rules, true≢false}
 use Rattle.std.specs.Prelude.{is_some}
 use Rattle.std.proofs.lemmas.Bool.Decides.{nat_tests}
 use Rattle.sc_gate.specs.declared.gate.Wire.{Wire}
@@ -6,9 +6,6 @@ use Rattle.sc_gate.specs.Gates.{AreDistinct}
 use Rattle.sc_gate.specs.Numbers.{Numbers, AreThere}
 use Rattle.sc_deck.specs.Bodies.{wires_of}
 use Rattle.sc_deck.specs.Decks.{CallFits}
-use Rattle.sc_deck.specs.Modules.{Module}
-use Rattle.sc_deck.specs.Keys.{param_classes}
-use Rattle.sc_deck.proofs.DeckLemmas.{callee_there}
 use Rattle.sc_read.proofs.HierHeading.{some_fact}
 use Rattle.sc_read.proofs.HierItems.{no_call-number, call_there, call_read, some_repeat, no_repeat, same_some, known_late}
 use Rattle.sc_read.proofs.item_line.call_of.Goals as goal

@@ -1,4 +1,4 @@
-use Rattle.std.proofs.Common.{◌≡◌, true, false, sym, ◌∙◌, subst, true≢false}
+use Rattle.std.proofs.Common.{sym, ◌∙◌, subst, true≢false}
 use Rattle.sc_deck.specs.Bodies.{wires_of}
 use Rattle.sc_read.specs.declared.item_line.Step.{Step}
 use Rattle.sc_read.specs.HierFronts.{ReadsStep}

@@ -1,7 +1,6 @@
-use Rattle.std.proofs.Common.{◌≡◌, ◌∷◌, [], ◌++◌, List, sym, ap, ◌∙◌, subst, arith, rules, Some}
-use Rattle.std.specs.Prelude.{codes}
+use Rattle.std.proofs.Common.{◌∷◌, [], ◌++◌, List, sym, ap, ◌∙◌, subst, arith}
 use Rattle.sc_gate.specs.declared.gate.Wire.{Wire}
-use Rattle.sc_read.proofs.HierItems.{OperandsRead, operands_begin, operands_more, operands_all}
+use Rattle.sc_read.proofs.HierItems.{OperandsRead, operands_begin, operands_more}
 use Rattle.sc_read.proofs.item_line.operands_of.Goals as goal
 
 pub loop-wire-init : goal.loop-wire-init

@@ -1,4 +1,4 @@
-use Rattle.std.proofs.Common.{List, ℕ, sym, subst}
+use Rattle.std.proofs.Common.{List, ℕ, subst}
 use Rattle.sc_read.specs.HierFronts.{ReadsArg}
 use Rattle.sc_read.proofs.GateParts.{none_from}
 use Rattle.sc_read.proofs.signature.arg_of.Goals as goal

@@ -1,4 +1,4 @@
-use Rattle.std.proofs.Common.{◌≡◌, ◌<◌, List, [], length, ap, rules, arith}
+use Rattle.std.proofs.Common.{◌≡◌, ◌<◌, [], length, ap, rules, arith}
 use Rattle.std.specs.Prelude.{codes}
 use Rattle.std.proofs.lemmas.Bool.Decides.{nat_tests}
 use Rattle.sc_read.proofs.HierArgs.{one_read, no_bracket, no_array_length, no_array_end, many_read, empty_text}

@@ -1,4 +1,4 @@
-use Rattle.std.proofs.Common.{◌∷◌, [], ◌++◌, sym, ◌∙◌, subst, true≢false, List, ℕ}
+use Rattle.std.proofs.Common.{◌∷◌, [], ◌++◌, sym, ◌∙◌, subst, true≢false}
 use Rattle.sc_base.specs.NameTexts.{IsNameText}
 use Rattle.sc_read.proofs.HierHeading.{no_open_there, cut_name}
 use Rattle.sc_read.proofs.signature.cut_signature.Goals as goal
