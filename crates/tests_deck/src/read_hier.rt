@@ -189,17 +189,6 @@ fn tower(alloc: Global, count: u32, calls: bool) -> Result<String, Fail> {
     Ok(text)
 }
 
-/// One module of a declaration and so many gates.
-fn long_module(alloc: Global, gates: u32) -> Result<String, Fail> {
-    let mut text = String::new(alloc);
-    text.push_str("hier 1\nmodule 0 main()\nqbit 1\n")?;
-    for _ in 0..gates {
-        text.push_str("X q0\n")?;
-    }
-    text.push_str("end\n")?;
-    Ok(text)
-}
-
 #[test]
 fn limits_on_modules(rt: HostRuntime) -> Result<(), Fail> {
     let deep = tower(rt.alloc(), 257, true)?;
@@ -208,15 +197,5 @@ fn limits_on_modules(rt: HostRuntime) -> Result<(), Fail> {
     let many = tower(rt.alloc(), 65537, false)?;
     let found = bodies(rt.alloc(), many.as_bytes());
     assert_eq!(rt; found, Err(HierFault::TooManyInstances(131074)));
-    Ok(())
-}
-
-#[test]
-fn limit_on_items(rt: HostRuntime) -> Result<(), Fail> {
-    let most = long_module(rt.alloc(), 1048575)?;
-    assert_eq!(rt; bodies(rt.alloc(), most.as_bytes())?, 1);
-    let long = long_module(rt.alloc(), 1048576)?;
-    let found = bodies(rt.alloc(), long.as_bytes());
-    assert_eq!(rt; found, Err(HierFault::TooLong(1048579)));
     Ok(())
 }
