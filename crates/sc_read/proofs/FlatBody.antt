@@ -109,7 +109,7 @@ body_ends wires count text gates left rest number read none not_whole =
     (λ end empty. let some : 0 < length rest = not_whole end in omega (arith, some, ap length empty))
 
 -- ONE WAY
-first_byte : GateName → ℕ
+pub first_byte : GateName → ℕ
 first_byte name.X = 88
 first_byte name.Y = 89
 first_byte name.Z = 90
@@ -129,7 +129,7 @@ first_byte name.PrepZ = 80
 first_byte name.MeasX = 77
 first_byte name.MeasZ = 77
 
-first_is : (n : GateName) (xs : List ℕ) → (more : List ℕ) × (gate_text n ++ xs ≡ first_byte n ∷ more)
+pub first_is : (n : GateName) (xs : List ℕ) → (more : List ℕ) × (gate_text n ++ xs ≡ first_byte n ∷ more)
 unfolding first_byte
 first_is name.X xs = (xs, refl)
 first_is name.Y xs = (xs, refl)
@@ -150,7 +150,7 @@ first_is name.PrepZ xs = (114 ∷ 101 ∷ 112 ∷ 90 ∷ xs, refl)
 first_is name.MeasX xs = (101 ∷ 97 ∷ 115 ∷ 88 ∷ xs, refl)
 first_is name.MeasZ xs = (101 ∷ 97 ∷ 115 ∷ 90 ∷ xs, refl)
 
-first_large : (n : GateName) → 65 ≤ first_byte n
+pub first_large : (n : GateName) → 65 ≤ first_byte n
 unfolding first_byte
 first_large name.X = omega arith
 first_large name.Y = omega arith
@@ -170,6 +170,27 @@ first_large name.PrepX = omega arith
 first_large name.PrepZ = omega arith
 first_large name.MeasX = omega arith
 first_large name.MeasZ = omega arith
+
+pub first_small : (n : GateName) → first_byte n ≤ 90
+unfolding first_byte
+first_small name.X = omega arith
+first_small name.Y = omega arith
+first_small name.Z = omega arith
+first_small name.H = omega arith
+first_small name.S = omega arith
+first_small name.T = omega arith
+first_small name.Sdag = omega arith
+first_small name.Tdag = omega arith
+first_small name.Cnot = omega arith
+first_small name.Toffoli = omega arith
+first_small name.Fredkin = omega arith
+first_small name.Rx = omega arith
+first_small name.Ry = omega arith
+first_small name.Rz = omega arith
+first_small name.PrepX = omega arith
+first_small name.PrepZ = omega arith
+first_small name.MeasX = omega arith
+first_small name.MeasZ = omega arith
 
 not_passed_over : (g : Gate) (more : List ℕ) → gate_line g ≡ codes "#" ++ more → ⊥
 not_passed_over g more same =

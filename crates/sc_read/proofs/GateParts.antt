@@ -130,7 +130,7 @@ letter_large : (c : Class) → 58 ≤ class_letter c
 letter_large Q = omega arith
 letter_large C = omega arith
 
-not_letter : (x : ℕ) (xs : List ℕ) (c : Class) (more : List ℕ) → x < 58 → x ∷ xs ≡ class_letter c ∷ more → ⊥
+pub not_letter : (x : ℕ) (xs : List ℕ) (c : Class) (more : List ℕ) → x < 58 → x ∷ xs ≡ class_letter c ∷ more → ⊥
 not_letter x xs c more small same = let s : x ≡ class_letter c = head_is x (class_letter c) xs more same in absurd (omega (arith, s, small, letter_large c))
 
 point_first : (whole rest : List ℕ) (c : Class) (more : List ℕ) → AllDigits 10 whole → whole ++ 46 ∷ rest ≡ class_letter c ∷ more → ⊥
@@ -143,7 +143,7 @@ units_first n rest c more small same =
     let parts = AllDigits-parts d.whole d.decimals d.digits.1 in
     point_first d.whole (d.decimals ++ rest) c more parts.0 (sym (append_assoc d.whole (46 ∷ d.decimals) rest) ∙ (ap (λ (z : List ℕ). z ++ rest) (sym d.joined) ∙ same))
 
-fixed_first : (z : ℤ) (rest : List ℕ) (c : Class) (more : List ℕ) → FitsSigned w64 z → fixed_text z ++ rest ≡ class_letter c ∷ more → ⊥
+pub fixed_first : (z : ℤ) (rest : List ℕ) (c : Class) (more : List ℕ) → FitsSigned w64 z → fixed_text z ++ rest ≡ class_letter c ∷ more → ⊥
 fixed_first (pos n) rest c more fits same = units_first n rest c more (omega (arith, fits.sfits)) same
 fixed_first (negsuc n) rest c more fits same = not_letter 45 (units_text (n + 1) ++ rest) c more (omega arith) same
 

@@ -1,3 +1,11 @@
 pub mod FlatBody
 pub mod FlatLines
 pub mod GateParts
+pub mod HierArgs
+pub mod HierHeading
+pub mod HierItemSteps
+pub mod HierItems
+pub mod HierLoops
+pub mod HierModules
+pub mod HierOneWay
+pub mod HierTexts

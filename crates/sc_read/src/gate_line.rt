@@ -72,7 +72,7 @@ fn take_name(bytes: &[u8]) -> Option<(GateName, &[u8])>
 }
 
 /// The class whose letter stands in front, and what follows it.
-fn take_class(bytes: &[u8]) -> Option<(Class, &[u8])>
+pub(crate) fn take_class(bytes: &[u8]) -> Option<(Class, &[u8])>
     ensures some { IfSome result (λ r. bytes.now ≡ class_letter r.0 ∷ r.1.now) }
     ensures none { IfNone result ((class : Classes) (rest : Values ℕ) → bytes.now ≡ class_letter class ∷ rest → ⊥) }
 {

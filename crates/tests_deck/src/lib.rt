@@ -24,6 +24,8 @@ mod path;
 #[cfg(test)]
 mod read;
 #[cfg(test)]
+mod read_hier;
+#[cfg(test)]
 mod sched;
 #[cfg(test)]
 mod tallies;
