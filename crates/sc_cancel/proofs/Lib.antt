@@ -1,0 +1,5 @@
+pub mod Marks
+pub mod Taking
+pub mod Restoring
+pub mod MoveLaws
+pub mod Reducing
