@@ -32,13 +32,13 @@ slice_get_front (z ∷ xs) ys zero x h = h
 slice_get_front (z ∷ xs) ys (suc i) x h = slice_get_front xs ys i x h
 
 pub set_here : {X : Type 0} (xs : List X) (x y : X) → slice_set (xs ++ x ∷ []) (length xs) y ≡ xs ++ y ∷ []
-set_here [] x y = refl
-set_here (z ∷ xs) x y = ap (λ (l : List X). z ∷ l) (set_here xs x y)
+set_here {X = X} [] x y = refl
+set_here {X = X} (z ∷ xs) x y = ap (λ (l : List X). z ∷ l) (set_here xs x y)
 
 pub set_front : {X : Type 0} (xs ys : List X) (i : ℕ) (y : X) → i < length xs → slice_set (xs ++ ys) i y ≡ slice_set xs i y ++ ys
-set_front [] ys i y l = absurd (omega (arith, l))
-set_front (z ∷ xs) ys zero y l = refl
-set_front (z ∷ xs) ys (suc i) y l = ap (λ (l : List X). z ∷ l) (set_front xs ys i y (omega (arith, l)))
+set_front {X = X} [] ys i y l = absurd (omega (arith, l))
+set_front {X = X} (z ∷ xs) ys zero y l = refl
+set_front {X = X} (z ∷ xs) ys (suc i) y l = ap (λ (l : List X). z ∷ l) (set_front xs ys i y (omega (arith, l)))
 
 pub snoc_length : {X : Type 0} (xs : List X) (x : X) → length (xs ++ x ∷ []) ≡ suc (length xs)
 snoc_length [] x = refl

@@ -18,14 +18,14 @@ use Rattle.sc_cancel.proofs.Taking.{undoes_cancels}
 use Rattle.sc_cancel.proofs.Restoring.{Stage, stage, with_none, with_some}
 
 -- the gates that stay, in reading order
-pub standing : List (Option Gate) → List Gate
+abbrev pub standing : List (Option Gate) → List Gate
 standing [] = []
 standing (None ∷ marks) = standing marks
 standing (Some g ∷ marks) = standing marks ++ g ∷ []
 
 flat_map-append : {X A : Type 0} (f : X → List A) (xs ys : List X) → flat_map f (xs ++ ys) ≡ flat_map f xs ++ flat_map f ys
-flat_map-append f [] ys = refl
-flat_map-append f (x ∷ xs) ys = ap (λ (l : List A). f x ++ l) (flat_map-append f xs ys) ∙ sym (append_assoc (f x) (flat_map f xs) (flat_map f ys))
+flat_map-append {A = A} f [] ys = refl
+flat_map-append {A = A} f (x ∷ xs) ys = ap (λ (l : List A). f x ++ l) (flat_map-append f xs ys) ∙ sym (append_assoc (f x) (flat_map f xs) (flat_map f ys))
 
 pub standing_at : (gates : List Gate) (marks : List (Option Gate)) → Agree gates marks → gates_at gates (places_of marks) ≡ standing marks
 standing_at gates [] a = refl
@@ -36,7 +36,7 @@ standing_at gates (Some g ∷ marks) a =
     ∙ ap (λ (o : Option Gate). standing marks ++ (option_to_list o ++ [])) a.0)
 
 -- all gates that stay are well formed
-pub AllWell : List (Option Gate) → Type 0
+abbrev pub AllWell : List (Option Gate) → Type 0
 AllWell [] = Unit {0}
 AllWell (None ∷ marks) = AllWell marks
 AllWell (Some g ∷ marks) = IsWellFormed g × AllWell marks
@@ -45,19 +45,19 @@ pub well_out : (g : Gate) (marks ys : List (Option Gate)) → AllWell marks → 
 well_out g [] ys w e = cc
 well_out g (None ∷ marks) ys w e =
     let m = map_some (λ (rest : List (Option Gate)). None ∷ rest) (taken_out g marks) ys e in
-    subst AllWell m.2.1 (well_out g marks m.0 w m.2.0)
+    subst AllWell m.2 (well_out g marks m.0 w m.1)
 well_out g (Some h ∷ marks) ys w e = elim (cases_Bool (shares g h)) [
   | inl s ↦ elim (cases_Bool (undoes h g)) [
     | inl u ↦ subst AllWell (some_same (None ∷ marks) ys (rw (s, u) at e)) w.1
     | inr u ↦ absurd (none_some ys (rw (s, u) at e))
   ]
   | inr s ↦ (let m = map_some (λ (rest : List (Option Gate)). Some h ∷ rest) (taken_out g marks) ys (rw s at e) in
-    subst AllWell m.2.1 (w.0, well_out g marks m.0 w.1 m.2.0))
+    subst AllWell m.2 (w.0, well_out g marks m.0 w.1 m.1))
 ]
 
 apart_sym : (g h : Gate) → shares g h ≡ false → shares h g ≡ false
 apart_sym g h s = elim (cases_Bool (shares h g)) [
-  | inl t ↦ (let w = (shares_tells h g).0 t in absurd (false≢true (sym s ∙ (shares_tells g h).1 (w.0, w.2.1, w.2.0))))
+  | inl t ↦ (let w = (shares_tells h g).0 t in absurd (false≢true (sym s ∙ (shares_tells g h).1 (w.0, w.2, w.1))))
   | inr f ↦ f
 ]
 
@@ -67,7 +67,7 @@ moved_out : (g : Gate) (marks ys : List (Option Gate)) (back gates : List Gate) 
 moved_out g [] ys back gates wg w e m = cc
 moved_out g (None ∷ marks) ys back gates wg w e m =
     let t = map_some (λ (rest : List (Option Gate)). None ∷ rest) (taken_out g marks) ys e in
-    moved_out g marks t.0 back gates wg w t.2.0 (subst (λ (l : List (Option Gate)). Moves (standing l ++ back) gates) (sym t.2.1) m)
+    moved_out g marks t.0 back gates wg w t.1 (subst (λ (l : List (Option Gate)). Moves (standing l ++ back) gates) (sym t.2) m)
 moved_out g (Some h ∷ marks) ys back gates wg w e m = elim (cases_Bool (shares g h)) [
   | inl s ↦ elim (cases_Bool (undoes h g)) [
     | inl u ↦ subst (λ (l : List Gate). Moves l gates) (sym (append_assoc (standing marks) (h ∷ []) (g ∷ back)))
@@ -78,9 +78,9 @@ moved_out g (Some h ∷ marks) ys back gates wg w e m = elim (cases_Bool (shares
   | inr s ↦ (let t = map_some (λ (rest : List (Option Gate)). Some h ∷ rest) (taken_out g marks) ys (rw s at e) in
     let after : Moves (standing t.0 ++ h ∷ back) gates =
         subst (λ (l : List Gate). Moves l gates) (append_assoc (standing t.0) (h ∷ []) back)
-        (subst (λ (l : List (Option Gate)). Moves (standing l ++ back) gates) (sym t.2.1) m) in
+        (subst (λ (l : List (Option Gate)). Moves (standing l ++ back) gates) (sym t.2) m) in
     subst (λ (l : List Gate). Moves l gates) (sym (append_assoc (standing marks) (h ∷ []) (g ∷ back)))
-    (swapped (standing marks) back gates h g (apart_sym g h s) (moved_out g marks t.0 (h ∷ back) gates wg w.1 t.2.0 after)))
+    (swapped (standing marks) back gates h g (apart_sym g h s) (moved_out g marks t.0 (h ∷ back) gates wg w.1 t.1 after)))
 ]
 
 moved_with : (g : Gate) (marks : List (Option Gate)) (o : Option (List (Option Gate))) (back gates : List Gate) → IsWellFormed g → AllWell marks → taken_out g marks ≡ o →
@@ -105,7 +105,7 @@ pub standing_shorter : (gates : List Gate) → gates_at gates (shorter gates) �
 standing_shorter gates = standing_at gates (marks_after gates) (stage gates).agree
 
 pub shorter_moves : (gates : List Gate) → AreWellFormed gates → Moves gates (gates_at gates (shorter gates))
-shorter_moves gates w = subst (λ (l : List Gate). Moves gates l) (sym (standing_shorter gates)) (moved_all gates [] w unit)
+shorter_moves gates w = subst (λ (l : List Gate). Moves gates l) (sym (standing_shorter gates)) (moved_all gates [] w tt)
 
 -- moves make no name more frequent
 

@@ -29,7 +29,7 @@ map_none f (Some x) h = cc
 
 apart_of : (g h k : Gate) → shares g h ≡ false → operands k ≡ operands g → shares h k ≡ false
 apart_of g h k s e = elim (cases_Bool (shares h k)) [
-  | inl t ↦ (let w = (shares_tells h k).0 t in absurd (false≢true (sym s ∙ (shares_tells g h).1 (w.0, sym (ap (λ (ws : List Wire). member w.0 ws) e) ∙ w.2.1, w.2.0))))
+  | inl t ↦ (let w = (shares_tells h k).0 t in absurd (false≢true (sym s ∙ (shares_tells g h).1 (w.0, sym (ap (λ (ws : List Wire). member w.0 ws) e) ∙ w.2, w.1))))
   | inr f ↦ f
 ]
 
@@ -48,8 +48,8 @@ still_none : (g h : Gate) (marks ys : List (Option Gate)) → shares g h ≡ fal
 still_none g h [] ys s e n = cc
 still_none g h (None ∷ marks) ys s e n =
     let m = map_some (λ (rest : List (Option Gate)). None ∷ rest) (taken_out g marks) ys e in
-    subst (λ (l : List (Option Gate)). taken_out h l ≡ None) m.2.1
-    (ap (option_map (λ (rest : List (Option Gate)). None ∷ rest)) (still_none g h marks m.0 s m.2.0 (map_none (λ (rest : List (Option Gate)). None ∷ rest) (taken_out h marks) n)))
+    subst (λ (l : List (Option Gate)). taken_out h l ≡ None) m.2
+    (ap (option_map (λ (rest : List (Option Gate)). None ∷ rest)) (still_none g h marks m.0 s m.1 (map_none (λ (rest : List (Option Gate)). None ∷ rest) (taken_out h marks) n)))
 still_none g h (Some k ∷ marks) ys s e n = elim (cases_Bool (shares g k)) [
   | inl t ↦ elim (cases_Bool (undoes k g)) [
     | inl u ↦ (let f : shares h k ≡ false = apart_of g h k s (undoes_operands k g u) in
@@ -58,21 +58,21 @@ still_none g h (Some k ∷ marks) ys s e n = elim (cases_Bool (shares g k)) [
     | inr u ↦ absurd (none_some ys (rw (t, u) at e))
   ]
   | inr t ↦ (let m = map_some (λ (rest : List (Option Gate)). Some k ∷ rest) (taken_out g marks) ys (rw t at e) in
-    subst (λ (l : List (Option Gate)). taken_out h l ≡ None) m.2.1 (still_later g h k marks m.0 s m.2.0 n (still_none g h marks m.0 s m.2.0)))
+    subst (λ (l : List (Option Gate)). taken_out h l ≡ None) m.2 (still_later g h k marks m.0 s m.1 n (still_none g h marks m.0 s m.1)))
 ]
 
 loose_out : (g : Gate) (marks ys : List (Option Gate)) → AreLoose marks → taken_out g marks ≡ Some ys → AreLoose ys
 loose_out g [] ys l e = cc
 loose_out g (None ∷ marks) ys l e =
     let m = map_some (λ (rest : List (Option Gate)). None ∷ rest) (taken_out g marks) ys e in
-    subst AreLoose m.2.1 (loose_out g marks m.0 l m.2.0)
+    subst AreLoose m.2 (loose_out g marks m.0 l m.1)
 loose_out g (Some h ∷ marks) ys l e = elim (cases_Bool (shares g h)) [
   | inl s ↦ elim (cases_Bool (undoes h g)) [
     | inl u ↦ subst AreLoose (some_same (None ∷ marks) ys (rw (s, u) at e)) l.1
     | inr u ↦ absurd (none_some ys (rw (s, u) at e))
   ]
   | inr s ↦ (let m = map_some (λ (rest : List (Option Gate)). Some h ∷ rest) (taken_out g marks) ys (rw s at e) in
-    subst AreLoose m.2.1 (still_none g h marks m.0 s m.2.0 l.0, loose_out g marks m.0 l.1 m.2.0))
+    subst AreLoose m.2 (still_none g h marks m.0 s m.1 l.0, loose_out g marks m.0 l.1 m.1))
 ]
 
 loose_with : (g : Gate) (marks : List (Option Gate)) (o : Option (List (Option Gate))) → AreLoose marks → taken_out g marks ≡ o → AreLoose (with_gate marks g)
@@ -103,7 +103,7 @@ between_last : (marks : List (Option Gate)) (g h k : Gate) (less : List Gate) �
     (list_any (λ m. shares g m) less || (shares g k || false)) ≡ true
 between_last marks g h k less n c go = elim (cases_Bool (shares h k)) [
   | inl s ↦ (let w = (shares_tells h k).0 s in
-    let t : shares g k ≡ true = (shares_tells g k).1 (w.0, ap (λ (ws : List Wire). member w.0 ws) c.operands_same ∙ w.2.0, w.2.1) in
+    let t : shares g k ≡ true = (shares_tells g k).1 (w.0, ap (λ (ws : List Wire). member w.0 ws) c.operands_same ∙ w.1, w.2) in
     or_right (list_any (λ m. shares g m) less) (shares g k || false) (ap (λ (b : Bool). b || false) t))
   | inr s ↦ or_left (list_any (λ m. shares g m) less) (shares g k || false)
     (go (map_none (λ (rest : List (Option Gate)). Some k ∷ rest) (taken_out h marks) (rw s at n)))
@@ -133,4 +133,4 @@ reduced (Some k ∷ marks) l front middle back g h e c =
     ]
 
 pub shorter_reduced : (gates : List Gate) → AreWellFormed gates → IsReduced (gates_at gates (shorter gates))
-shorter_reduced gates w = subst IsReduced (sym (standing_shorter gates)) (reduced (marks_after gates) (loose_all gates [] unit))
+shorter_reduced gates w = subst IsReduced (sym (standing_shorter gates)) (reduced (marks_after gates) (loose_all gates [] tt))

@@ -20,7 +20,7 @@ use Rattle.sc_cancel.proofs.Taking.{undoes_operands, links_same, member_left, me
 
 -- the operands of a gate have one number
 there : (f : Wire → Option ℕ) (o : Option Wire) (q : ℕ) → ((w : Wire) → member w (option_to_list o) ≡ true → f w ≡ Some q) → is_there o (on_wire f o) q
-there f None q h = unit
+there f None q h = tt
 there f (Some w) q h = h w (member_here w [])
 
 pub all_from : (f : Wire → Option ℕ) (g : Gate) (q : ℕ) → ((w : Wire) → member w (operands g) ≡ true → f w ≡ Some q) → AreAll (links_by f g) g q
@@ -137,7 +137,7 @@ stage_fold front (g ∷ rest) marks s =
     (stage_fold (front ++ g ∷ []) rest (with_gate marks g) (stage_with front rest g marks (taken_out g marks) refl s))
 
 pub stage : (gates : List Gate) → Stage gates (marks_after gates)
-stage gates = stage_fold [] gates [] record { many = refl; agree = unit }
+stage gates = stage_fold [] gates [] record { many = refl; agree = tt }
 
 -- after a front of the gates
 pub agree_after : (gates : List Gate) (n : ℕ) → Agree gates (marks_after (take n gates))
@@ -154,4 +154,4 @@ places_linked [] = refl
 places_linked (None ∷ marks) = places-append 0 (linked marks) (None ∷ []) ∙ (append-nil (places 0 (linked marks)) ∙ places_linked marks)
 places_linked (Some g ∷ marks) =
     places-append 0 (linked marks) (Some (links_by (last_on marks) g) ∷ [])
-    ∙ (ap (λ (n : ℕ). places 0 (linked marks) ++ n ∷ []) (length-linked marks) ∙ ap (λ (l : List ℕ). l ++ length marks ∷ []) (places_linked marks))
+    ∙ (ap (λ (n : ℕ). places 0 (linked marks) ++ n ∷ []) (omega (arith, length-linked marks)) ∙ ap (λ (l : List ℕ). l ++ length marks ∷ []) (places_linked marks))

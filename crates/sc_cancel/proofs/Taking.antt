@@ -198,14 +198,14 @@ pub is_taken : (gates : List Gate) (g : Gate) (marks ys : List (Option Gate)) �
 is_taken gates g [] ys a e = cc
 is_taken gates g (None ∷ marks) ys a e =
     let m = map_some (λ (rest : List (Option Gate)). None ∷ rest) (taken_out g marks) ys e in
-    subst (λ (l : List (Option Gate)). IsTaken gates g (None ∷ marks) l) m.2.1 (taken_none gates g marks m.0 (is_taken gates g marks m.0 a m.2.0))
+    subst (λ (l : List (Option Gate)). IsTaken gates g (None ∷ marks) l) m.2 (taken_none gates g marks m.0 (is_taken gates g marks m.0 a m.1))
 is_taken gates g (Some h ∷ marks) ys a e = elim (cases_Bool (shares g h)) [
   | inl s ↦ elim (cases_Bool (undoes h g)) [
     | inl u ↦ subst (λ (l : List (Option Gate)). IsTaken gates g (Some h ∷ marks) l) (some_same (None ∷ marks) ys (rw (s, u) at e)) (taken_here gates g h marks u a)
     | inr u ↦ absurd (none_some ys (rw (s, u) at e))
   ]
   | inr s ↦ (let m = map_some (λ (rest : List (Option Gate)). Some h ∷ rest) (taken_out g marks) ys (rw s at e) in
-    subst (λ (l : List (Option Gate)). IsTaken gates g (Some h ∷ marks) l) m.2.1 (taken_later gates g h marks m.0 s a.0 (is_taken gates g marks m.0 a.1 m.2.0)))
+    subst (λ (l : List (Option Gate)). IsTaken gates g (Some h ∷ marks) l) m.2 (taken_later gates g h marks m.0 s a.0 (is_taken gates g marks m.0 a.1 m.1)))
 ]
 
 -- where all operands have one last gate, which g undoes, that is taken out
@@ -218,7 +218,7 @@ taken_if gates g (None ∷ marks) q h a l e u =
     (None ∷ m.0, ap (option_map (λ (rest : List (Option Gate)). None ∷ rest)) m.1)
 taken_if gates g (Some k ∷ marks) q h a l e u = elim (cases_Bool (shares g k)) [
   | inl s ↦ (let w = (shares_tells g k).0 s in
-    let at : length marks ≡ q = some_same (length marks) q (rw w.2.1 at (l w.0 w.2.0)) in
+    let at : length marks ≡ q = some_same (length marks) q (rw w.2 at (l w.0 w.1)) in
     let same : k ≡ h = some_same k h (sym a.0 ∙ (ap (slice_get gates) at ∙ e)) in
     let v : undoes k g ≡ true = ap (λ (x : Gate). undoes x g) same ∙ u in
     (None ∷ marks, rw (s, v) refl))

@@ -67,14 +67,14 @@ pub record AreSmall (links : Links) : Type 0 where
   pub b : IfSome links.b (λ n. n < 4294967295)
   pub c : IfSome links.c (λ n. n < 4294967295)
 
--- the gate stays, as the last one, with these links
-pub record IsWith (old : Kept) (gate : Gate) (links : Links) (new : Kept) : Type 0 where
+-- the gate stays, as the last one, with these links before it
+pub record IsWith (old : Kept) (gate : Gate) (before : Links) (new : Kept) : Type 0 where
   pub table : (w : Wire) → number_at new.table w ≡ (if member w (operands gate) then Some (length old.links.items) else number_at old.table w)
-  pub links : new.links.items ≡ old.links.items ++ Some links ∷ []
+  pub links : new.links.items ≡ old.links.items ++ Some before ∷ []
 
 -- neither the gate stays nor the one at q, which had these links
-pub record IsWithout (old : Kept) (gate : Gate) (q : ℕ) (links : Links) (new : Kept) : Type 0 where
-  pub table : (w : Wire) → number_at new.table w ≡ relinked links gate w (number_at old.table w)
+pub record IsWithout (old : Kept) (gate : Gate) (q : ℕ) (before : Links) (new : Kept) : Type 0 where
+  pub table : (w : Wire) → number_at new.table w ≡ relinked before gate w (number_at old.table w)
   pub links : new.links.items ≡ slice_set old.links.items q None ++ None ∷ []
 
 -- the positions where something stands, counted from p
