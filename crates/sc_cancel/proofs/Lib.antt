@@ -3,3 +3,4 @@ pub mod Taking
 pub mod Restoring
 pub mod MoveLaws
 pub mod Reducing
+pub mod Stepping

@@ -3,6 +3,7 @@ use Rattle.std.proofs.Common.{◌≡◌, ℕ, zero, suc, ◌+◌, ◌<◌, ◌�
 use Rattle.std.specs.Prelude.{slice_get, option_to_list, fold, flat_map, count_by, sum_by, cond, ◌==◌}
 use Rattle.std.specs.Option.{option_map}
 use Rattle.std.proofs.lemmas.Bool.{false≢true, cases_Bool}
+use Rattle.std.proofs.lemmas.List.Concat.{flat_map-append}
 use Rattle.std.proofs.lemmas.List.Sums.{sum_by-append, sum_by-cons}
 use Rattle.sc_base.specs.declared.names.GateName.{GateName}
 use Rattle.sc_gate.specs.declared.gate.Wire.{Wire}
@@ -22,10 +23,6 @@ abbrev pub standing : List (Option Gate) → List Gate
 standing [] = []
 standing (None ∷ marks) = standing marks
 standing (Some g ∷ marks) = standing marks ++ g ∷ []
-
-flat_map-append : {X A : Type 0} (f : X → List A) (xs ys : List X) → flat_map f (xs ++ ys) ≡ flat_map f xs ++ flat_map f ys
-flat_map-append {A = A} f [] ys = refl
-flat_map-append {A = A} f (x ∷ xs) ys = ap (λ (l : List A). f x ++ l) (flat_map-append f xs ys) ∙ sym (append_assoc (f x) (flat_map f xs) (flat_map f ys))
 
 pub standing_at : (gates : List Gate) (marks : List (Option Gate)) → Agree gates marks → gates_at gates (places_of marks) ≡ standing marks
 standing_at gates [] a = refl

@@ -1,9 +1,10 @@
 -- What the code keeps, after one more gate.
-use Rattle.std.proofs.Common.{◌≡◌, ℕ, zero, suc, ◌+◌, ◌<◌, ◌≤◌, Bool, true, false, Option, Some, None, List, [], ◌∷◌, ◌++◌, ◌⊎◌, inl, inr, length, take, drop, get_or, if◌then◌else◌, refl, sym, ap, ◌∙◌, subst, arith, add-one, IfSome, append_assoc, append-nil, take-append-drop}
+use Rattle.std.proofs.Common.{◌≡◌, ℕ, zero, suc, ◌+◌, ◌<◌, ◌≤◌, Bool, true, false, Option, Some, None, List, [], ◌∷◌, ◌++◌, ◌⊎◌, inl, inr, length, take, drop, get_or, if◌then◌else◌, refl, sym, ap, ◌∙◌, subst, arith, add-one, IfSome, append_assoc, append-nil, take-append-drop, length-take}
 use Rattle.std.specs.Prelude.{◌&&◌, ◌||◌, slice_get, slice_set, option_to_list, fold, unwrap_or}
-use Rattle.std.specs.Option.{option_map}
+use Rattle.std.specs.Option.{option_map, is_some}
 use Rattle.std.proofs.lemmas.Bool.{false≢true, cases_Bool}
 use Rattle.std.proofs.lemmas.List.Sums.{fold_more}
+use Rattle.std.proofs.Math.Seq.{take-suc}
 use Rattle.std.proofs.lemmas.Option.{slice_get_within, get_or_from_slice_get}
 use Rattle.sc_gate.specs.declared.gate.Wire.{Wire}
 use Rattle.sc_gate.specs.declared.gate.Gate.{Gate}
@@ -155,3 +156,27 @@ places_linked (None ∷ marks) = places-append 0 (linked marks) (None ∷ []) �
 places_linked (Some g ∷ marks) =
     places-append 0 (linked marks) (Some (links_by (last_on marks) g) ∷ [])
     ∙ (ap (λ (n : ℕ). places 0 (linked marks) ++ n ∷ []) (omega (arith, length-linked marks)) ∙ ap (λ (l : List ℕ). l ++ length marks ∷ []) (places_linked marks))
+
+-- one more position in reading order
+places_more : {X : Type 0} (all : List (Option X)) (i : ℕ) (d : Option X) → i < length all → places 0 (take (i + 1) all) ≡ places 0 (take i all) ++ places i (get_or all i d ∷ [])
+places_more {X = X} all i d l =
+    let front : take (i + 1) all ≡ take i all ++ get_or all i d ∷ [] = rw add-one (take-suc all i d l) in
+    ap (places 0) front
+    ∙ (places-append 0 (take i all) (get_or all i d ∷ []) ∙ ap (λ (n : ℕ). places 0 (take i all) ++ places n (get_or all i d ∷ [])) (omega (arith, l, length-take i all)))
+
+place_some : {X : Type 0} (i : ℕ) (o : Option X) → is_some o ≡ true → places i (o ∷ []) ≡ i ∷ []
+place_some i None h = cc
+place_some i (Some x) h = refl
+
+place_none : {X : Type 0} (i : ℕ) (o : Option X) → is_some o ≡ false → places i (o ∷ []) ≡ []
+place_none i None h = refl
+place_none i (Some x) h = cc
+
+pub places_push : {X : Type 0} (all : List (Option X)) (i : ℕ) (now new : List ℕ) → i < length all → is_some (get_or all i None) ≡ true → new ≡ now ++ i ∷ [] → now ≡ places 0 (take i all) → new ≡ places 0 (take (i + 1) all)
+places_push all i now new l s e n =
+    e ∙ (ap (λ (x : List ℕ). x ++ i ∷ []) n
+    ∙ sym (places_more all i None l ∙ ap (λ (x : List ℕ). places 0 (take i all) ++ x) (place_some i (get_or all i None) s)))
+
+pub places_pass : {X : Type 0} (all : List (Option X)) (i : ℕ) (now : List ℕ) → i < length all → is_some (get_or all i None) ≡ false → now ≡ places 0 (take i all) → now ≡ places 0 (take (i + 1) all)
+places_pass all i now l s n =
+    n ∙ sym (places_more all i None l ∙ (ap (λ (x : List ℕ). places 0 (take i all) ++ x) (place_none i (get_or all i None) s) ∙ append-nil (places 0 (take i all))))
