@@ -1,5 +1,5 @@
 -- One more gate, as the code takes it.
-use Rattle.std.proofs.Common.{◌≡◌, ℕ, zero, suc, ◌+◌, ◌<◌, ◌≤◌, Bool, true, false, Option, Some, None, List, [], ◌∷◌, ◌++◌, length, take, get_or, refl, sym, ap, ◌∙◌, subst, arith, IfSome, map, add-one, append-nil, length-append}
+use Rattle.std.proofs.Common.{◌≡◌, ℕ, zero, suc, ◌+◌, ◌<◌, ◌≤◌, Bool, true, false, Option, Some, None, List, [], ◌∷◌, ◌++◌, length, take, get_or, refl, sym, ap, ◌∙◌, subst, arith, IfSome, map, add-one, append-nil, length-append, length-take}
 use Rattle.std.specs.Prelude.{slice_get, slice_set, option_to_list, flat_map}
 use Rattle.std.specs.List.{AllByRecursion}
 use Rattle.std.proofs.Math.Seq.{take-suc}
@@ -19,10 +19,10 @@ use Rattle.sc_cancel.specs.declared.keeping.Links.{Links}
 use Rattle.sc_cancel.specs.declared.keeping.Kept.{Kept}
 use Rattle.sc_cancel.specs.Cancelling.{undoes, taken_out, with_gate, marks_after, places_of, shorter, gates_at}
 use Rattle.sc_cancel.specs.Moves.{Ascend}
-use Rattle.sc_cancel.specs.Keeping.{on_wire, links_by, last_on, linked, links_at, IsKept, IsWith, IsWithout, AreAll, AreSmall}
+use Rattle.sc_cancel.specs.Keeping.{on_wire, links_by, last_on, linked, links_at, IsKept, IsWith, IsWithout, AreAll, AreSmall, places}
 use Rattle.sc_cancel.proofs.Marks.{some_same, none_some, length-linked, last_below, Agree}
 use Rattle.sc_cancel.proofs.Taking.{IsTaken, is_taken, taken_if, cancels_undoes, undoes_cancels}
-use Rattle.sc_cancel.proofs.Restoring.{all_from, all_to, kept_with, kept_without, with_none, with_some, marks_more, agree_after, Stage, stage}
+use Rattle.sc_cancel.proofs.Restoring.{all_from, all_to, kept_with, kept_without, with_none, with_some, marks_more, agree_after, Stage, stage, places_linked}
 use Rattle.std.proofs.lemmas.List.Concat.{flat_map-append}
 
 pub well_at : (gates : List Gate) (i : ℕ) (g : Gate) → AreWellFormed gates → slice_get gates i ≡ Some g → IsWellFormed g
@@ -251,3 +251,12 @@ places_ascend (Some g ∷ marks) = ascend_snoc (length marks) (places_of marks) 
 
 pub shorter_below : (gates : List Gate) → AllByRecursion (λ p. p < length gates) (shorter gates)
 shorter_below gates = subst (λ (n : ℕ). AllByRecursion (λ p. p < n) (shorter gates)) (stage gates).many (places_below (marks_after gates))
+
+-- one more gate was added
+pub added_many : (gates : List Gate) (n : ℕ) (old new : Kept) → n < length gates → length old.links.items ≡ n →
+    IsKept new (marks_after (take (length old.links.items + 1) gates)) → length new.links.items ≡ n + 1
+added_many gates n old new l e k = kept_length (take (length old.links.items + 1) gates) new k ∙ omega (arith, l, e, length-take (length old.links.items + 1) gates)
+
+-- the positions that are left at the end
+pub places_kept : (gates : List Gate) (n : ℕ) (kept : Kept) → length gates ≤ n → IsKept kept (marks_after (take n gates)) → places 0 kept.links.items ≡ shorter gates
+places_kept gates n kept l k = ap (places 0) k.links ∙ (places_linked (marks_after (take n gates)) ∙ ap shorter (take_all n gates l))
