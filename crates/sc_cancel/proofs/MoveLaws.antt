@@ -1,22 +1,20 @@
 -- The gates that stay are reached by moves.
-use Rattle.std.proofs.Common.{◌≡◌, ℕ, zero, suc, ◌+◌, ◌<◌, ◌≤◌, Bool, true, false, Option, Some, None, List, [], ◌∷◌, ◌++◌, ◌⊎◌, inl, inr, length, if◌then◌else◌, refl, sym, ap, ◌∙◌, subst, arith, append_assoc, append-nil}
-use Rattle.std.specs.Prelude.{slice_get, option_to_list, fold, flat_map, count_by, sum_by, cond, ◌==◌}
-use Rattle.std.specs.Option.{option_map}
+use Rattle.std.proofs.Common.{◌≡◌, ℕ, ◌+◌, ◌≤◌, false, Option, Some, None, List, [], ◌∷◌, ◌++◌, inl, inr, length, refl, sym, ap, ◌∙◌, subst, arith, append_assoc, append-nil}
+use Rattle.std.specs.Prelude.{slice_get, option_to_list, fold, sum_by, cond, ◌==◌}
 use Rattle.std.proofs.lemmas.Bool.{false≢true, cases_Bool}
 use Rattle.std.proofs.lemmas.List.Concat.{flat_map-append}
 use Rattle.std.proofs.lemmas.List.Sums.{sum_by-append, sum_by-cons}
 use Rattle.sc_base.specs.declared.names.GateName.{GateName}
-use Rattle.sc_gate.specs.declared.gate.Wire.{Wire}
 use Rattle.sc_gate.specs.declared.gate.Gate.{Gate}
-use Rattle.sc_gate.specs.Gates.{name_of, place_of, operands, Cancels, IsWellFormed, AreWellFormed}
-use Rattle.sc_gate.specs.Wires.{member, shares}
+use Rattle.sc_gate.specs.Gates.{name_of, place_of, IsWellFormed, AreWellFormed}
+use Rattle.sc_gate.specs.Wires.{shares}
 use Rattle.sc_gate.proofs.WireLemmas.{shares_tells}
 use Rattle.sc_cancel.specs.Cancelling.{undoes, taken_out, with_gate, marks_after, places_of, shorter, gates_at}
 use Rattle.sc_cancel.specs.Moves.{Moves, count_of}
 use Rattle.sc_cancel.specs.Moves.Moves.{done, swapped, removed}
 use Rattle.sc_cancel.proofs.Marks.{map_some, some_same, none_some, Agree}
 use Rattle.sc_cancel.proofs.Taking.{undoes_cancels}
-use Rattle.sc_cancel.proofs.Restoring.{Stage, stage, with_none, with_some}
+use Rattle.sc_cancel.proofs.Restoring.{stage, with_none, with_some}
 
 -- the gates that stay, in reading order
 abbrev pub standing : List (Option Gate) → List Gate
@@ -49,7 +47,7 @@ well_out g (Some h ∷ marks) ys w e = elim (cases_Bool (shares g h)) [
     | inr u ↦ absurd (none_some ys (rw (s, u) at e))
   ]
   | inr s ↦ (let m = map_some (λ (rest : List (Option Gate)). Some h ∷ rest) (taken_out g marks) ys (rw s at e) in
-    subst AllWell m.2 (w.0, well_out g marks m.0 w.1 m.1))
+      subst AllWell m.2 (w.0, well_out g marks m.0 w.1 m.1))
 ]
 
 apart_sym : (g h : Gate) → shares g h ≡ false → shares h g ≡ false
@@ -68,16 +66,16 @@ moved_out g (None ∷ marks) ys back gates wg w e m =
 moved_out g (Some h ∷ marks) ys back gates wg w e m = elim (cases_Bool (shares g h)) [
   | inl s ↦ elim (cases_Bool (undoes h g)) [
     | inl u ↦ subst (λ (l : List Gate). Moves l gates) (sym (append_assoc (standing marks) (h ∷ []) (g ∷ back)))
-      (removed (standing marks) back gates h g (undoes_cancels h g w.0 wg u)
-      (subst (λ (l : List (Option Gate)). Moves (standing l ++ back) gates) (sym (some_same (None ∷ marks) ys (rw (s, u) at e))) m))
+        (removed (standing marks) back gates h g (undoes_cancels h g w.0 wg u)
+        (subst (λ (l : List (Option Gate)). Moves (standing l ++ back) gates) (sym (some_same (None ∷ marks) ys (rw (s, u) at e))) m))
     | inr u ↦ absurd (none_some ys (rw (s, u) at e))
   ]
   | inr s ↦ (let t = map_some (λ (rest : List (Option Gate)). Some h ∷ rest) (taken_out g marks) ys (rw s at e) in
-    let after : Moves (standing t.0 ++ h ∷ back) gates =
-        subst (λ (l : List Gate). Moves l gates) (append_assoc (standing t.0) (h ∷ []) back)
-        (subst (λ (l : List (Option Gate)). Moves (standing l ++ back) gates) (sym t.2) m) in
-    subst (λ (l : List Gate). Moves l gates) (sym (append_assoc (standing marks) (h ∷ []) (g ∷ back)))
-    (swapped (standing marks) back gates h g (apart_sym g h s) (moved_out g marks t.0 (h ∷ back) gates wg w.1 t.1 after)))
+      let after : Moves (standing t.0 ++ h ∷ back) gates =
+      subst (λ (l : List Gate). Moves l gates) (append_assoc (standing t.0) (h ∷ []) back)
+      (subst (λ (l : List (Option Gate)). Moves (standing l ++ back) gates) (sym t.2) m) in
+      subst (λ (l : List Gate). Moves l gates) (sym (append_assoc (standing marks) (h ∷ []) (g ∷ back)))
+      (swapped (standing marks) back gates h g (apart_sym g h s) (moved_out g marks t.0 (h ∷ back) gates wg w.1 t.1 after)))
 ]
 
 moved_with : (g : Gate) (marks : List (Option Gate)) (o : Option (List (Option Gate))) (back gates : List Gate) → IsWellFormed g → AllWell marks → taken_out g marks ≡ o →
@@ -105,8 +103,6 @@ pub shorter_moves : (gates : List Gate) → AreWellFormed gates → Moves gates 
 shorter_moves gates w = subst (λ (l : List Gate). Moves gates l) (sym (standing_shorter gates)) (moved_all gates [] w tt)
 
 -- moves make no name more frequent
-
-
 
 swap_count : (name : GateName) (front back : List Gate) (g h : Gate) → count_of name (front ++ h ∷ g ∷ back) ≡ count_of name (front ++ g ∷ h ∷ back)
 swap_count name front back g h =

@@ -1,5 +1,5 @@
 -- No pair that cancels is left with nothing between that shares a wire.
-use Rattle.std.proofs.Common.{◌≡◌, ℕ, zero, suc, Bool, true, false, Option, Some, None, List, [], ◌∷◌, ◌++◌, ◌⊎◌, inl, inr, length, if◌then◌else◌, refl, sym, ap, ◌∙◌, subst, append_assoc, append-nil}
+use Rattle.std.proofs.Common.{◌≡◌, Bool, true, false, Option, Some, None, List, [], ◌∷◌, ◌++◌, ◌⊎◌, inl, inr, refl, sym, ap, ◌∙◌, subst, append_assoc}
 use Rattle.std.specs.Prelude.{◌||◌, fold, option_to_list}
 use Rattle.std.specs.Option.{option_map}
 use Rattle.std.specs.List.{list_any}
@@ -13,7 +13,7 @@ use Rattle.sc_gate.proofs.WireLemmas.{shares_tells, member_here}
 use Rattle.sc_cancel.specs.Cancelling.{undoes, taken_out, with_gate, marks_after, shorter, gates_at}
 use Rattle.sc_cancel.specs.Moves.{IsReduced}
 use Rattle.sc_cancel.proofs.Marks.{map_some, some_same, none_some}
-use Rattle.sc_cancel.proofs.Taking.{cancels_undoes, undoes_operands, apart_back}
+use Rattle.sc_cancel.proofs.Taking.{cancels_undoes, undoes_operands}
 use Rattle.sc_cancel.proofs.Restoring.{with_none, with_some}
 use Rattle.sc_cancel.proofs.MoveLaws.{standing, standing_shorter}
 
@@ -53,12 +53,12 @@ still_none g h (None ∷ marks) ys s e n =
 still_none g h (Some k ∷ marks) ys s e n = elim (cases_Bool (shares g k)) [
   | inl t ↦ elim (cases_Bool (undoes k g)) [
     | inl u ↦ (let f : shares h k ≡ false = apart_of g h k s (undoes_operands k g u) in
-      subst (λ (l : List (Option Gate)). taken_out h l ≡ None) (some_same (None ∷ marks) ys (rw (t, u) at e))
-      (ap (option_map (λ (rest : List (Option Gate)). None ∷ rest)) (map_none (λ (rest : List (Option Gate)). Some k ∷ rest) (taken_out h marks) (rw f at n))))
+        subst (λ (l : List (Option Gate)). taken_out h l ≡ None) (some_same (None ∷ marks) ys (rw (t, u) at e))
+        (ap (option_map (λ (rest : List (Option Gate)). None ∷ rest)) (map_none (λ (rest : List (Option Gate)). Some k ∷ rest) (taken_out h marks) (rw f at n))))
     | inr u ↦ absurd (none_some ys (rw (t, u) at e))
   ]
   | inr t ↦ (let m = map_some (λ (rest : List (Option Gate)). Some k ∷ rest) (taken_out g marks) ys (rw t at e) in
-    subst (λ (l : List (Option Gate)). taken_out h l ≡ None) m.2 (still_later g h k marks m.0 s m.1 n (still_none g h marks m.0 s m.1)))
+      subst (λ (l : List (Option Gate)). taken_out h l ≡ None) m.2 (still_later g h k marks m.0 s m.1 n (still_none g h marks m.0 s m.1)))
 ]
 
 loose_out : (g : Gate) (marks ys : List (Option Gate)) → AreLoose marks → taken_out g marks ≡ Some ys → AreLoose ys
@@ -72,7 +72,7 @@ loose_out g (Some h ∷ marks) ys l e = elim (cases_Bool (shares g h)) [
     | inr u ↦ absurd (none_some ys (rw (s, u) at e))
   ]
   | inr s ↦ (let m = map_some (λ (rest : List (Option Gate)). Some h ∷ rest) (taken_out g marks) ys (rw s at e) in
-    subst AreLoose m.2 (still_none g h marks m.0 s m.1 l.0, loose_out g marks m.0 l.1 m.1))
+      subst AreLoose m.2 (still_none g h marks m.0 s m.1 l.0, loose_out g marks m.0 l.1 m.1))
 ]
 
 loose_with : (g : Gate) (marks : List (Option Gate)) (o : Option (List (Option Gate))) → AreLoose marks → taken_out g marks ≡ o → AreLoose (with_gate marks g)
@@ -103,10 +103,10 @@ between_last : (marks : List (Option Gate)) (g h k : Gate) (less : List Gate) �
     (list_any (λ m. shares g m) less || (shares g k || false)) ≡ true
 between_last marks g h k less n c go = elim (cases_Bool (shares h k)) [
   | inl s ↦ (let w = (shares_tells h k).0 s in
-    let t : shares g k ≡ true = (shares_tells g k).1 (w.0, ap (λ (ws : List Wire). member w.0 ws) c.operands_same ∙ w.1, w.2) in
-    or_right (list_any (λ m. shares g m) less) (shares g k || false) (ap (λ (b : Bool). b || false) t))
+      let t : shares g k ≡ true = (shares_tells g k).1 (w.0, ap (λ (ws : List Wire). member w.0 ws) c.operands_same ∙ w.1, w.2) in
+      or_right (list_any (λ m. shares g m) less) (shares g k || false) (ap (λ (b : Bool). b || false) t))
   | inr s ↦ or_left (list_any (λ m. shares g m) less) (shares g k || false)
-    (go (map_none (λ (rest : List (Option Gate)). Some k ∷ rest) (taken_out h marks) (rw s at n)))
+      (go (map_none (λ (rest : List (Option Gate)). Some k ∷ rest) (taken_out h marks) (rw s at n)))
 ]
 
 -- between a gate that stays and a later one that cancels it stands one on its wires
@@ -116,9 +116,12 @@ between [] g h (x ∷ front) middle n c e = (let t : [] ≡ x ∷ (front ++ g �
 between (None ∷ marks) g h front middle n c e = between marks g h front middle (map_none (λ (rest : List (Option Gate)). None ∷ rest) (taken_out h marks) n) c e
 between (Some k ∷ marks) g h front middle n c e = elim (ends k g (standing marks) front middle e) [
   | inl p ↦ (let u : undoes k h ≡ true = ap (λ (x : Gate). undoes x h) p.1 ∙ cancels_undoes g h c in
-    let s : shares h k ≡ true = (shares_tells h k).1 (h.a, member_here h.a (option_to_list h.b ++ option_to_list h.c),
-        ap (λ (ws : List Wire). member h.a ws) (ap operands p.1 ∙ c.operands_same) ∙ member_here h.a (option_to_list h.b ++ option_to_list h.c)) in
-    absurd (none_some (None ∷ marks) (sym n ∙ rw (s, u) refl)))
+      let s : shares h k ≡ true = (shares_tells h k).1 (
+        h.a,
+        member_here h.a (option_to_list h.b ++ option_to_list h.c),
+        ap (λ (ws : List Wire). member h.a ws) (ap operands p.1 ∙ c.operands_same) ∙ member_here h.a (option_to_list h.b ++ option_to_list h.c),
+      ) in
+      absurd (none_some (None ∷ marks) (sym n ∙ rw (s, u) refl)))
   | inr p ↦ ap (list_any (λ m. shares g m)) p.1 ∙ (list_any-append (λ m. shares g m) p.0 (k ∷ []) ∙ between_last marks g h k p.0 n c (λ m. between marks g h front p.0 m c p.2))
 ]
 

@@ -1,6 +1,6 @@
 -- What the code keeps, after one more gate.
-use Rattle.std.proofs.Common.{◌≡◌, ℕ, zero, suc, ◌+◌, ◌<◌, ◌≤◌, Bool, true, false, Option, Some, None, List, [], ◌∷◌, ◌++◌, ◌⊎◌, inl, inr, length, take, drop, get_or, if◌then◌else◌, refl, sym, ap, ◌∙◌, subst, arith, add-one, IfSome, append_assoc, append-nil, take-append-drop, length-take}
-use Rattle.std.specs.Prelude.{◌&&◌, ◌||◌, slice_get, slice_set, option_to_list, fold, unwrap_or}
+use Rattle.std.proofs.Common.{◌≡◌, ℕ, suc, ◌+◌, ◌<◌, Bool, true, false, Option, Some, None, List, [], ◌∷◌, ◌++◌, ◌⊎◌, inl, inr, length, take, drop, get_or, if◌then◌else◌, refl, sym, ap, ◌∙◌, subst, arith, add-one, append_assoc, append-nil, take-append-drop, length-take}
+use Rattle.std.specs.Prelude.{◌||◌, slice_get, slice_set, option_to_list, fold, unwrap_or}
 use Rattle.std.specs.Option.{option_map, is_some}
 use Rattle.std.proofs.lemmas.Bool.{false≢true, cases_Bool}
 use Rattle.std.proofs.lemmas.List.Sums.{fold_more}
@@ -8,16 +8,16 @@ use Rattle.std.proofs.Math.Seq.{take-suc}
 use Rattle.std.proofs.lemmas.Option.{slice_get_within, get_or_from_slice_get}
 use Rattle.sc_gate.specs.declared.gate.Wire.{Wire}
 use Rattle.sc_gate.specs.declared.gate.Gate.{Gate}
-use Rattle.sc_gate.specs.Gates.{operands, Cancels, IsWellFormed}
+use Rattle.sc_gate.specs.Gates.{operands}
 use Rattle.sc_gate.specs.Wires.{same_wire, member}
 use Rattle.sc_gate.specs.WireTables.{number_at}
 use Rattle.sc_gate.proofs.WireLemmas.{same_wire-true, member_here, member_later}
 use Rattle.sc_cancel.specs.declared.keeping.Links.{Links}
 use Rattle.sc_cancel.specs.declared.keeping.Kept.{Kept}
-use Rattle.sc_cancel.specs.Cancelling.{undoes, taken_out, with_gate, marks_after, places_of}
-use Rattle.sc_cancel.specs.Keeping.{on_wire, links_by, last_on, linked, links_at, IsKept, IsWith, IsWithout, is_operand, relinked, is_there, AreAll, AreSmall, places}
-use Rattle.sc_cancel.proofs.Marks.{some_same, none_some, length-linked, last_below, snoc_length, slice_get_here, Agree, agree_front}
-use Rattle.sc_cancel.proofs.Taking.{undoes_operands, links_same, member_left, member_right, IsTaken, is_taken, taken_if, cancels_undoes, undoes_cancels}
+use Rattle.sc_cancel.specs.Cancelling.{taken_out, with_gate, marks_after, places_of}
+use Rattle.sc_cancel.specs.Keeping.{on_wire, links_by, last_on, linked, IsKept, IsWith, IsWithout, is_operand, relinked, is_there, AreAll, places}
+use Rattle.sc_cancel.proofs.Marks.{length-linked, snoc_length, slice_get_here, Agree, agree_front}
+use Rattle.sc_cancel.proofs.Taking.{undoes_operands, links_same, member_left, member_right, IsTaken, is_taken}
 
 -- the operands of a gate have one number
 there : (f : Wire → Option ℕ) (o : Option Wire) (q : ℕ) → ((w : Wire) → member w (option_to_list o) ≡ true → f w ≡ Some q) → is_there o (on_wire f o) q
@@ -77,9 +77,9 @@ pub relinked_is : (f : Wire → Option ℕ) (g : Gate) (w : Wire) (old : Option 
 relinked_is f g w old = elim (cases_Bool (same_wire g.a w)) [
   | inl t ↦ rw t (ap f (same_wire-true g.a w t))
   | inr n ↦ rw n
-    (ap (λ (x : Option ℕ). if is_operand g.b w then on_wire f g.b else x) (operand_is f g.c w old)
-    ∙ (operand_is f g.b w (if member w (option_to_list g.c) then f w else old)
-    ∙ joined_if w (option_to_list g.b) (option_to_list g.c) (f w) old))
+      (ap (λ (x : Option ℕ). if is_operand g.b w then on_wire f g.b else x) (operand_is f g.c w old)
+      ∙ (operand_is f g.b w (if member w (option_to_list g.c) then f w else old)
+      ∙ joined_if w (option_to_list g.b) (option_to_list g.c) (f w) old))
 ]
 
 -- the gate stays
@@ -112,7 +112,6 @@ pub marks_more : (gates : List Gate) (n : ℕ) (g : Gate) → slice_get gates n 
 marks_more gates n g e =
     fold_more with_gate [] gates n g (slice_get_within gates n g e)
     ∙ ap (with_gate (marks_after (take n gates))) (get_or_from_slice_get gates n g g e)
-
 
 -- so many marks as gates, which agree
 pub record Stage (gates : List Gate) (marks : List (Option Gate)) : Type 0 where

@@ -1,6 +1,6 @@
 -- One more gate, as the code takes it.
-use Rattle.std.proofs.Common.{◌≡◌, ℕ, zero, suc, ◌+◌, ◌<◌, ◌≤◌, Bool, true, false, Option, Some, None, List, [], ◌∷◌, ◌++◌, length, take, get_or, refl, sym, ap, ◌∙◌, subst, arith, IfSome, map, add-one, append-nil, length-append, length-take}
-use Rattle.std.specs.Prelude.{slice_get, slice_set, option_to_list, flat_map}
+use Rattle.std.proofs.Common.{◌≡◌, ℕ, zero, suc, ◌+◌, ◌<◌, ◌≤◌, true, Option, Some, None, List, [], ◌∷◌, ◌++◌, length, take, get_or, refl, sym, ap, ◌∙◌, subst, arith, IfSome, map, add-one, append-nil, length-append, length-take}
+use Rattle.std.specs.Prelude.{slice_get, option_to_list, flat_map}
 use Rattle.std.specs.List.{AllByRecursion}
 use Rattle.std.proofs.Math.Seq.{take-suc}
 use Rattle.std.proofs.lemmas.List.{take_all}
@@ -17,12 +17,12 @@ use Rattle.sc_probe.specs.Rules.{step, folded}
 use Rattle.sc_probe.proofs.SeenLemmas.{all_more}
 use Rattle.sc_cancel.specs.declared.keeping.Links.{Links}
 use Rattle.sc_cancel.specs.declared.keeping.Kept.{Kept}
-use Rattle.sc_cancel.specs.Cancelling.{undoes, taken_out, with_gate, marks_after, places_of, shorter, gates_at}
+use Rattle.sc_cancel.specs.Cancelling.{taken_out, with_gate, marks_after, places_of, shorter, gates_at}
 use Rattle.sc_cancel.specs.Moves.{Ascend}
 use Rattle.sc_cancel.specs.Keeping.{on_wire, links_by, last_on, linked, links_at, IsKept, IsWith, IsWithout, AreAll, AreSmall, places}
 use Rattle.sc_cancel.proofs.Marks.{some_same, none_some, length-linked, last_below, Agree}
 use Rattle.sc_cancel.proofs.Taking.{IsTaken, is_taken, taken_if, cancels_undoes, undoes_cancels}
-use Rattle.sc_cancel.proofs.Restoring.{all_from, all_to, kept_with, kept_without, with_none, with_some, marks_more, agree_after, Stage, stage, places_linked}
+use Rattle.sc_cancel.proofs.Restoring.{all_from, all_to, kept_with, kept_without, with_none, with_some, marks_more, agree_after, stage, places_linked}
 use Rattle.std.proofs.lemmas.List.Concat.{flat_map-append}
 
 pub well_at : (gates : List Gate) (i : ℕ) (g : Gate) → AreWellFormed gates → slice_get gates i ≡ Some g → IsWellFormed g
@@ -86,9 +86,9 @@ pub found_kept : (gates : List Gate) (g h : Gate) (marks : List (Option Gate)) (
 found_kept gates g h marks q old new t k e w =
     let at_gate : IsWithout old h q (links_by (last_on t.taken.older) t.taken.gate) new = w (links_by (last_on t.taken.older) t.taken.gate) (found_links gates g marks q old t k) in
     let at_same : IsWithout old t.taken.gate q (links_by (last_on t.taken.older) t.taken.gate) new =
-        subst (λ (x : Gate). IsWithout old x q (links_by (last_on t.taken.older) t.taken.gate) new) (sym (found_gate gates g h marks q t e)) at_gate in
+    subst (λ (x : Gate). IsWithout old x q (links_by (last_on t.taken.older) t.taken.gate) new) (sym (found_gate gates g h marks q t e)) at_gate in
     let at_place : IsWithout old t.taken.gate t.taken.at (links_by (last_on t.taken.older) t.taken.gate) new =
-        subst (λ (n : ℕ). IsWithout old t.taken.gate n (links_by (last_on t.taken.older) t.taken.gate) new) (sym t.is_at) at_same in
+    subst (λ (n : ℕ). IsWithout old t.taken.gate n (links_by (last_on t.taken.older) t.taken.gate) new) (sym t.is_at) at_same in
     subst (IsKept new) (sym (with_some marks t.ys g t.out)) (kept_without gates old new g marks t.ys t.taken k at_place)
 
 -- where no gate is the last one on all wires and cancels g, none is taken out
@@ -180,8 +180,8 @@ pub none_cancels : (gates : List Gate) (g : Gate) (old : Kept) (links : Links) (
 none_cancels gates g old links q d wf k next e a never =
     not_found gates g (so_far gates old) (number_at old.table) (agree_after gates (length old.links.items)) k.table wf (well_at gates (length old.links.items) g wf next)
     (λ p h b s c. (let same : p ≡ q = some_same p q (sym b.a ∙ (ap (λ (l : Links). l.a) (sym e) ∙ a.a)) in
-      let is : get_or gates q d ≡ h = some_same (get_or gates q d) h (sym (slice_get-get_or gates q d (there_below gates g old links q k next e a)) ∙ (ap (slice_get gates) (sym same) ∙ s)) in
-      never (subst (λ (x : Gate). Cancels x g) (sym is) c)))
+    let is : get_or gates q d ≡ h = some_same (get_or gates q d) h (sym (slice_get-get_or gates q d (there_below gates g old links q k next e a)) ∙ (ap (slice_get gates) (sym same) ∙ s)) in
+    never (subst (λ (x : Gate). Cancels x g) (sym is) c)))
 
 -- a position of a list
 pub below_at : (n : ℕ) (positions : List ℕ) (i d : ℕ) → AllByRecursion (λ p. p < n) positions → i < length positions → get_or positions i d < n
@@ -217,9 +217,12 @@ gates_more gates positions i d all l =
     ∙ (flat_map-append (λ p. option_to_list (slice_get gates p)) (take i positions) (get_or positions i 0 ∷ [])
     ∙ ap (λ (o : Option Gate). gates_at gates (take i positions) ++ (option_to_list o ++ [])) (slice_get-get_or gates (get_or positions i 0) d (below_at (length gates) positions i 0 all l)))
 
-pub kept_text : (qubits cbits : ℕ) (gates : List Gate) (positions : List ℕ) → AllByRecursion (λ p. p < length gates) positions →
-    flat_text qubits cbits (gates_at gates positions) ≡ flat_header qubits cbits (length positions) ++ gate_lines (gates_at gates positions)
-kept_text qubits cbits gates positions all = ap (λ (n : ℕ). flat_header qubits cbits n ++ gate_lines (gates_at gates positions)) (length-gates_at gates positions all)
+pub kept_text : (qubits cbits q c : ℕ) (gates : List Gate) (positions : List ℕ) → q ≡ qubits → c ≡ cbits → AllByRecursion (λ p. p < length gates) positions →
+    flat_text qubits cbits (gates_at gates positions) ≡ flat_header q c (length positions) ++ gate_lines (gates_at gates positions)
+kept_text qubits cbits q c gates positions qs cs all =
+    ap (λ (n : ℕ). flat_header qubits cbits n ++ gate_lines (gates_at gates positions)) (length-gates_at gates positions all)
+    ∙ (ap (λ (n : ℕ). flat_header n cbits (length positions) ++ gate_lines (gates_at gates positions)) (sym qs)
+    ∙ ap (λ (n : ℕ). flat_header q n (length positions) ++ gate_lines (gates_at gates positions)) (sym cs))
 
 -- so many positions as gates so far
 pub kept_length : (front : List Gate) (kept : Kept) → IsKept kept (marks_after front) → length kept.links.items ≡ length front

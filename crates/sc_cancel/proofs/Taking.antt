@@ -1,5 +1,5 @@
 -- What it means that a gate is taken out, and when one is.
-use Rattle.std.proofs.Common.{◌≡◌, ℕ, zero, suc, ◌+◌, ◌<◌, ◌≤◌, Bool, true, false, Option, Some, None, List, [], ◌∷◌, ◌++◌, ◌⊎◌, inl, inr, length, if◌then◌else◌, refl, sym, ap, ◌∙◌, subst, arith}
+use Rattle.std.proofs.Common.{◌≡◌, ℕ, zero, suc, ◌<◌, ◌≤◌, Bool, true, false, Option, Some, None, List, [], ◌∷◌, ◌++◌, inl, inr, length, if◌then◌else◌, refl, sym, ap, ◌∙◌, subst, arith}
 use Rattle.std.specs.Prelude.{◌&&◌, ◌||◌, slice_get, slice_set, option_to_list}
 use Rattle.std.specs.Option.{option_map}
 use Rattle.std.proofs.lemmas.Bool.{false≢true, cases_Bool}
@@ -11,7 +11,7 @@ use Rattle.sc_gate.proofs.WireLemmas.{same_wire-true, same_wire-refl, member_her
 use Rattle.sc_cancel.specs.declared.keeping.Links.{Links}
 use Rattle.sc_cancel.specs.Cancelling.{same_wires, undoes, taken_out}
 use Rattle.sc_cancel.specs.Keeping.{on_wire, links_by, last_on, linked, links_at, joined}
-use Rattle.sc_cancel.proofs.Marks.{map_some, some_same, none_some, slice_get_here, slice_get_front, set_here, set_front, length-linked, last_below, Agree}
+use Rattle.sc_cancel.proofs.Marks.{map_some, some_same, none_some, slice_get_here, set_here, set_front, length-linked, Agree}
 
 both : (s t : Bool) → (s && t) ≡ true → (s ≡ true) × (t ≡ true)
 both true t h = (refl, h)
@@ -205,7 +205,7 @@ is_taken gates g (Some h ∷ marks) ys a e = elim (cases_Bool (shares g h)) [
     | inr u ↦ absurd (none_some ys (rw (s, u) at e))
   ]
   | inr s ↦ (let m = map_some (λ (rest : List (Option Gate)). Some h ∷ rest) (taken_out g marks) ys (rw s at e) in
-    subst (λ (l : List (Option Gate)). IsTaken gates g (Some h ∷ marks) l) m.2 (taken_later gates g h marks m.0 s a.0 (is_taken gates g marks m.0 a.1 m.1)))
+      subst (λ (l : List (Option Gate)). IsTaken gates g (Some h ∷ marks) l) m.2 (taken_later gates g h marks m.0 s a.0 (is_taken gates g marks m.0 a.1 m.1)))
 ]
 
 -- where all operands have one last gate, which g undoes, that is taken out
@@ -218,10 +218,10 @@ taken_if gates g (None ∷ marks) q h a l e u =
     (None ∷ m.0, ap (option_map (λ (rest : List (Option Gate)). None ∷ rest)) m.1)
 taken_if gates g (Some k ∷ marks) q h a l e u = elim (cases_Bool (shares g k)) [
   | inl s ↦ (let w = (shares_tells g k).0 s in
-    let at : length marks ≡ q = some_same (length marks) q (rw w.2 at (l w.0 w.1)) in
-    let same : k ≡ h = some_same k h (sym a.0 ∙ (ap (slice_get gates) at ∙ e)) in
-    let v : undoes k g ≡ true = ap (λ (x : Gate). undoes x g) same ∙ u in
-    (None ∷ marks, rw (s, v) refl))
+      let at : length marks ≡ q = some_same (length marks) q (rw w.2 at (l w.0 w.1)) in
+      let same : k ≡ h = some_same k h (sym a.0 ∙ (ap (slice_get gates) at ∙ e)) in
+      let v : undoes k g ≡ true = ap (λ (x : Gate). undoes x g) same ∙ u in
+      (None ∷ marks, rw (s, v) refl))
   | inr s ↦ (let m = taken_if gates g marks q h a.1 (λ w b. (let f : member w (operands k) ≡ false = apart g k w s b in rw f at (l w b))) e u in
-    (Some k ∷ m.0, rw s (ap (option_map (λ (rest : List (Option Gate)). Some k ∷ rest)) m.1)))
+      (Some k ∷ m.0, rw s (ap (option_map (λ (rest : List (Option Gate)). Some k ∷ rest)) m.1)))
 ]

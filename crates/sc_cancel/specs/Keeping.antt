@@ -1,5 +1,5 @@
 -- What the code keeps: for each wire the last gate that stays, and for each gate that stays the ones before it on its wires.
-use Rattle.std.specs.Prelude.{◌≡◌, ℕ, suc, Bool, true, false, if◌then◌else◌, ◌&&◌, Option, None, Some, List, [], ◌∷◌, ◌++◌, length, slice_get, ◌<◌, IfSome, slice_set}
+use Rattle.std.specs.Prelude.{◌≡◌, ℕ, suc, Bool, false, if◌then◌else◌, Option, None, Some, List, [], ◌∷◌, ◌++◌, length, slice_get, ◌<◌, IfSome, slice_set}
 use Rattle.sc_gate.specs.declared.gate.Wire.{Wire}
 use Rattle.sc_gate.specs.declared.gate.Gate.{Gate}
 use Rattle.sc_gate.specs.Gates.{operands}
@@ -7,7 +7,6 @@ use Rattle.sc_gate.specs.Wires.{same_wire, member}
 use Rattle.sc_gate.specs.WireTables.{number_at}
 use Rattle.sc_cancel.specs.declared.keeping.Links.{Links}
 use Rattle.sc_cancel.specs.declared.keeping.Kept.{Kept}
-use Rattle.sc_cancel.specs.Cancelling.{marks_after}
 
 abbrev pub on_wire : (Wire → Option ℕ) → Option Wire → Option ℕ
 on_wire f None = None

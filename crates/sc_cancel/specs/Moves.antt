@@ -1,5 +1,5 @@
 -- What cancelling does to a gate list, and what it leaves.
-use Rattle.std.specs.Prelude.{◌≡◌, ◌<◌, ◌==◌, ℕ, Bool, true, false, List, [], ◌∷◌, ◌++◌, count_by}
+use Rattle.std.specs.Prelude.{◌≡◌, ◌<◌, ◌==◌, ℕ, true, false, List, [], ◌∷◌, ◌++◌, count_by}
 use Rattle.std.specs.List.{list_any}
 use Rattle.sc_base.specs.declared.names.GateName.{GateName}
 use Rattle.sc_gate.specs.declared.gate.Gate.{Gate}

@@ -116,7 +116,10 @@ impl Kept {
     {
         let links = Links::of(&self.table, gate);
         match links.common(gate) {
-            Some(last) if cancels(&gates[last as usize], gate) => self.take_out(&gates[last as usize], last),
+            Some(last) if cancels(&gates[last as usize], gate) => self.take_out(
+                &gates[last as usize],
+                last,
+            ),
             _ => self.keep(gate, links),
         }
     }

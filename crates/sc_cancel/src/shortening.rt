@@ -76,7 +76,12 @@ pub fn write_kept<O: Sink>(
     ensures prefix { WrotePrefix O.tells O.bytes out.old out.new (flat_text qubits cbits (gates_at gates.now kept.now)) }
     ensures cause { HasCause (O.faults out.old) (O.faults out.new) result }
 {
-    write_header(u128::from(qubits), u128::from(cbits), kept.len() as u64, out)?;
+    write_header(
+        u128::from(qubits),
+        u128::from(cbits),
+        kept.len() as u64,
+        out,
+    )?;
     write_gates(gates, kept, out)?;
     Ok(())
 }

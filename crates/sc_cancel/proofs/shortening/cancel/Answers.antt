@@ -1,9 +1,9 @@
-use Rattle.std.proofs.Common.{◌≡◌, ◌<◌, ◌+◌, List, ℕ, length, sym, ap, ◌∙◌, subst, take, get_or}
+use Rattle.std.proofs.Common.{◌<◌, ◌+◌, ℕ, length, sym, ap, ◌∙◌, subst, take}
 use Rattle.std.specs.Prelude.{slice_get}
 use Rattle.std.specs.List.{AllByRecursion}
 use Rattle.std.proofs.lemmas.Option.{slice_get-get_or}
 use Rattle.std.proofs.lemmas.Result.{IfOk-weaker}
-use Rattle.sc_cancel.specs.Cancelling.{marks_after, shorter}
+use Rattle.sc_cancel.specs.Cancelling.{marks_after}
 use Rattle.sc_cancel.specs.Keeping.{IsKept}
 use Rattle.sc_cancel.specs.Moves.{Ascend}
 use Rattle.sc_cancel.proofs.Stepping.{added_many, places_kept, places_ascend, shorter_below}
@@ -22,10 +22,10 @@ loop-gate-preserved c = record {
 }
 
 pub returns-clause-shorter : goal.returns-clause-shorter
-returns-clause-shorter c = IfOk-weaker c.positions.result (λ kept e. e ∙ places_kept c.args.gates.now c.loop-gate.gate-index c.loop-gate.kept c.loop-gate-test.false c.loop-gate.invariant.kept) c.positions.ensures
+returns-clause-shorter c = IfOk-weaker c.positions.result _ _ (λ kept e. e ∙ places_kept c.args.gates.now c.loop-gate.gate-index c.loop-gate.kept c.loop-gate-test.false c.loop-gate.invariant.kept) c.positions.ensures
 
 pub returns-clause-ascending : goal.returns-clause-ascending
-returns-clause-ascending c = IfOk-weaker c.positions.result (λ kept e. subst Ascend (sym (e ∙ places_kept c.args.gates.now c.loop-gate.gate-index c.loop-gate.kept c.loop-gate-test.false c.loop-gate.invariant.kept)) (places_ascend (marks_after c.args.gates.now))) c.positions.ensures
+returns-clause-ascending c = IfOk-weaker c.positions.result _ _ (λ kept e. subst Ascend (sym (e ∙ places_kept c.args.gates.now c.loop-gate.gate-index c.loop-gate.kept c.loop-gate-test.false c.loop-gate.invariant.kept)) (places_ascend (marks_after c.args.gates.now))) c.positions.ensures
 
 pub returns-clause-below : goal.returns-clause-below
-returns-clause-below c = IfOk-weaker c.positions.result (λ kept e. subst (AllByRecursion (λ p. p < length c.args.gates.now)) (sym (e ∙ places_kept c.args.gates.now c.loop-gate.gate-index c.loop-gate.kept c.loop-gate-test.false c.loop-gate.invariant.kept)) (shorter_below c.args.gates.now)) c.positions.ensures
+returns-clause-below c = IfOk-weaker c.positions.result _ _ (λ kept e. subst (AllByRecursion (λ p. p < length c.args.gates.now)) (sym (e ∙ places_kept c.args.gates.now c.loop-gate.gate-index c.loop-gate.kept c.loop-gate-test.false c.loop-gate.invariant.kept)) (shorter_below c.args.gates.now)) c.positions.ensures

@@ -1,6 +1,4 @@
-use Rattle.std.proofs.Common.{◌∙◌, ◌+◌, ap, map, take}
-use Rattle.std.proofs.lemmas.List.{take_all}
-use Rattle.sc_probe.specs.Rules.{folded}
+use Rattle.std.proofs.Common.{◌∙◌, ◌+◌, take}
 use Rattle.sc_cancel.specs.Cancelling.{gates_at}
 use Rattle.sc_cancel.proofs.Stepping.{shown_more, gates_more}
 use Rattle.sc_cancel.proofs.shortening.show.Goals as goal

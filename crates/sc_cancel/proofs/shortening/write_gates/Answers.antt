@@ -1,4 +1,4 @@
-use Rattle.std.proofs.Common.{◌<◌, length, get_or, refl, sym, ap, ◌∙◌, arith}
+use Rattle.std.proofs.Common.{length, get_or, sym, arith}
 use Rattle.sc_base.proofs.LoopLemmas.{prefix_as, loop_step, loop_fault, loop_done}
 use Rattle.sc_base.proofs.OutputLemmas.{wrote_as, prefix_whole}
 use Rattle.sc_gate.specs.Lines.{gate_lines}
