@@ -4,6 +4,8 @@
 #[cfg(test)]
 mod base;
 #[cfg(test)]
+mod cancel;
+#[cfg(test)]
 mod gate;
 #[cfg(test)]
 mod probe;
