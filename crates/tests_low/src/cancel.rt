@@ -34,7 +34,10 @@ fn pairs(rt: HostRuntime) -> Result<(), Fail> {
         (&[one(Kind::T, high), one(Kind::Tdag, high)], &[]),
         (&[cnot(0, 1), cnot(1, 0)], &[0, 1]),
         (&[cnot(0, 1), one(Kind::X, 1), cnot(0, 1)], &[0, 1, 2]),
-        (&[one(Kind::X, 0), cnot(0, 1), cnot(0, 1), one(Kind::X, 0)], &[]),
+        (
+            &[one(Kind::X, 0), cnot(0, 1), cnot(0, 1), one(Kind::X, 0)],
+            &[],
+        ),
     ] {
         assert!(rt; stays(rt.alloc(), gates, want)?);
     }
@@ -61,7 +64,10 @@ fn text(rt: HostRuntime) -> Result<(), Fail> {
     let kept = cancel(rt.alloc(), &gates)?;
     let mut out = MemSink::new(rt.alloc(), 200, 200)?;
     write_kept(2, 0, &gates, kept.as_slice(), &mut out)?;
-    assert_eq!(rt; out.written(), b"flat 1\nqbits 2\ncbits 0\ngates 2\nX q1\nT q1\n".as_slice());
+    assert_eq!(rt;
+        out.written(),
+        b"flat 1\nqbits 2\ncbits 0\ngates 2\nX q1\nT q1\n".as_slice()
+    );
     Ok(())
 }
 
