@@ -15,7 +15,7 @@ CRATES = {
     'sc_gate': 'sc_base itoa',
     'sc_syntax': 'sc_base',
     'sc_parse': 'sc_base sc_syntax',
-    'sc_word': 'sc_base sc_syntax indexmap',
+    'sc_word': 'sc_base sc_syntax',
     'sc_types': 'sc_base sc_syntax sc_word',
     'sc_deck': 'sc_base sc_gate indexmap smallvec',
     'sc_rev': 'sc_base sc_gate sc_syntax sc_word sc_deck',
