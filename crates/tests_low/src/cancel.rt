@@ -1,7 +1,11 @@
 //! Gate lists without the pairs that undo each other.
-use sc_base::{MemSink, Memory};
+ghost use Rattle.std.specs.Prelude.{IsTrue, IfOk, ◌<◌, length};
+ghost use Rattle.std.specs.List.{AllByRecursion};
+ghost use Rattle.sc_gate.specs.Gates.{AreWellFormed};
+
+use sc_base::{List as Items, MemSink};
 use sc_cancel::{cancel, show, write_kept};
-use sc_gate::{Gate, Kind, Wire};
+use sc_gate::{Gate, Kind, Wire, well_formed};
 use sc_probe::{KindsProbe, Probe, report_all};
 use std::alloc::Global;
 use std::test::Fail;
@@ -18,10 +22,27 @@ fn cnot(control: u32, target: u32) -> Gate {
     Gate::two(Kind::Cnot, q(control), q(target))
 }
 
-/// Whether these positions stay.
-fn stays(alloc: Global, gates: &[Gate], want: &[u32]) -> Result<bool, Memory> {
-    let kept = cancel(alloc, gates)?;
-    Ok(kept.as_slice() == want)
+/// Whether all gates are well formed.
+fn are_well_formed(gates: &[Gate]) -> bool
+    ensures { IsTrue result → AreWellFormed gates.now }
+{
+    for gate in gates {
+        let formed = well_formed(gate);
+        if !formed {
+            return false;
+        }
+    }
+    true
+}
+
+/// The positions that stay of a few well-formed gates.
+fn kept_of(alloc: Global, gates: &[Gate]) -> Result<Items<u32>, Fail>
+    ensures { IfOk result (λ kept. AllByRecursion (λ p. p < length gates.now) kept) }
+{
+    if gates.len() > 100 || !are_well_formed(gates) {
+        return Err("gates".into());
+    }
+    Ok(cancel(alloc, gates)?)
 }
 
 #[test]
@@ -39,7 +60,8 @@ fn pairs(rt: HostRuntime) -> Result<(), Fail> {
             &[],
         ),
     ] {
-        assert!(rt; stays(rt.alloc(), gates, want)?);
+        let kept = kept_of(rt.alloc(), gates)?;
+        assert_eq!(rt; kept.as_slice(), want);
     }
     Ok(())
 }
@@ -61,7 +83,7 @@ fn example() -> [Gate; 8] {
 #[test]
 fn text(rt: HostRuntime) -> Result<(), Fail> {
     let gates = example();
-    let kept = cancel(rt.alloc(), &gates)?;
+    let kept = kept_of(rt.alloc(), &gates)?;
     let mut out = MemSink::new(rt.alloc(), 200, 200)?;
     write_kept(2, 0, &gates, kept.as_slice(), &mut out)?;
     assert_eq!(rt;
@@ -75,7 +97,7 @@ fn text(rt: HostRuntime) -> Result<(), Fail> {
 fn observers(rt: HostRuntime) -> Result<(), Fail> {
     let alloc = rt.alloc();
     let gates = example();
-    let kept = cancel(alloc, &gates)?;
+    let kept = kept_of(alloc, &gates)?;
     let mut probes: Vec<Box<dyn Probe>> = Vec::new(alloc);
     probes.push(Box::new(alloc, KindsProbe::new())?)?;
     show(&gates, kept.as_slice(), probes.as_mut_slice());
