@@ -8,6 +8,7 @@ of processor time of three runs and the peak memory of each. The first deck call
 """
 import os, shutil, subprocess, tempfile
 from pathlib import Path
+from programs import COUNTER_RT
 
 top = Path(__file__).resolve().parent.parent
 
@@ -28,38 +29,7 @@ use sc_probe::Probe;
 use std::alloc::Global;
 use std::process::ExitCode;
 
-#[derive(Drop)]
-struct Counter {
-    bytes: u64,
-    is_ended: bool,
-}
-
-impl Sink for Counter {
-    ghost use Rattle.std.specs.Prelude.{false, []};
-
-    ghost tells = { λ _. false };
-
-    ghost bytes = { λ _. [] };
-
-    ghost faults = { λ _. 0 };
-
-    ghost is_ended = { λ s. s.is_ended };
-
-    fn write(&mut self, piece: &[u8]) -> Result<usize, Failed> {
-        self.bytes = self.bytes.wrapping_add(piece.len() as u64);
-        Ok(piece.len())
-    }
-
-    fn finish(&mut self) -> Result<(), Failed> {
-        self.is_ended = true;
-        Ok(())
-    }
-
-    fn ended(&self) -> bool {
-        self.is_ended
-    }
-}
-
+''' + COUNTER_RT + '''
 fn hadamard(number: u32) -> Gate
     ensures { result ≡ h number }
 {

@@ -5,10 +5,9 @@ usage: bench/read.py [CASE..]
 Builds a program in a folder that it drops again, on copies of the readers' crates. The cases are the names in CASES, by
 default all of them. `none` reads the file alone: what it takes is part of each other case.
 """
-import os, shutil, subprocess, sys, tempfile, time
+import os, subprocess, sys, tempfile, time
 from pathlib import Path
-
-top = Path(__file__).resolve().parent.parent
+from programs import WORDS_RT, lay_out
 
 MOST = 134217728
 
@@ -29,22 +28,7 @@ use std::alloc::Global;
 use std::env;
 use std::process::ExitCode;
 
-fn word(words: &[String], i: usize) -> &str {
-    match words.get(i) {
-        Some(word) => word.as_str(),
-        None => "",
-    }
-}
-
-fn read_args(rt: &HostRuntime) -> Option<Vec<String>> {
-    let args = env::args(rt).ok()?;
-    let mut words = Vec::new(rt.alloc());
-    for word in args {
-        words.push(word).ok()?;
-    }
-    Some(words)
-}
-
+''' + WORDS_RT + '''
 /// Whether the text is read; every text is, as none.
 fn is_read(alloc: Global, form: &str, text: &[u8]) -> bool {
     if text.len() > 134217728 {
@@ -128,12 +112,7 @@ def main():
     names = sys.argv[1:] or list(CASES)
     with tempfile.TemporaryDirectory() as folder:
         folder = Path(folder)
-        crates = folder / 'crates'
-        for name in CRATES:
-            if name != 'reading':
-                shutil.copytree(top / 'crates' / name, crates / name, ignore=shutil.ignore_patterns('out'))
-        (folder / 'HANDLES').write_text((top / 'HANDLES').read_text())
-        (folder / 'crates.txt').write_text(''.join(f'{name}: {below}\n' for name, below in CRATES.items()))
+        crates = lay_out(folder, CRATES, 'reading')
         (crates / 'reading/src').mkdir(parents=True)
         (crates / 'reading/src/main.rt').write_text(MAIN_RT)
         built = subprocess.run(['rt', 'run'], cwd=crates / 'reading', capture_output=True, text=True)

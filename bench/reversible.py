@@ -7,6 +7,7 @@ Builds a test of each case in a folder that it drops again, on copies of the cra
 """
 import shutil, subprocess, sys, tempfile
 from pathlib import Path
+from programs import lay_out
 
 top = Path(__file__).resolve().parent.parent
 
@@ -85,12 +86,7 @@ def main():
     for name in sys.argv[1:] or CASES:
         with tempfile.TemporaryDirectory() as folder:
             folder = Path(folder)
-            crates = folder / 'crates'
-            for crate in CRATES:
-                if crate != 'sizes':
-                    shutil.copytree(top / 'crates' / crate, crates / crate, ignore=shutil.ignore_patterns('out'))
-            (folder / 'HANDLES').write_text((top / 'HANDLES').read_text())
-            (folder / 'crates.txt').write_text(''.join(f'{crate}: {below}\n' for crate, below in CRATES.items()))
+            crates = lay_out(folder, CRATES, 'sizes')
             source = crates / 'sizes/src'
             source.mkdir(parents=True)
             modules = ('functions', 'operators') if name.startswith('pairs') else ('functions',)

@@ -9,6 +9,7 @@ A case of a text makes the text first; one that ends with `made` does no more.
 """
 import os, shutil, subprocess, sys, tempfile, time
 from pathlib import Path
+from programs import WORDS_RT
 
 top = Path(__file__).resolve().parent.parent
 
@@ -218,22 +219,7 @@ fn number(words: &[String], i: usize) -> u32 {
     }
 }
 
-fn word(words: &[String], i: usize) -> &str {
-    match words.get(i) {
-        Some(word) => word.as_str(),
-        None => "",
-    }
-}
-
-fn read_args(rt: &HostRuntime) -> Option<Vec<String>> {
-    let args = env::args(rt).ok()?;
-    let mut words = Vec::new(rt.alloc());
-    for word in args {
-        words.push(word).ok()?;
-    }
-    Some(words)
-}
-
+''' + WORDS_RT + r'''
 /// Reads a text of so many steps, each of them `step` with `;` for a line feed.
 fn has_text(rt: &HostRuntime, words: &[String]) -> bool {
     let Ok(step) = word(words, 3).replace(rt.alloc(), ";", "\n") else {

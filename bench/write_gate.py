@@ -6,6 +6,7 @@ Builds both in a folder that it drops again: the first on copies of sc_base and 
 """
 import os, shutil, subprocess, tempfile, time
 from pathlib import Path
+from programs import COUNTER_RT
 
 top = Path(__file__).resolve().parent.parent
 
@@ -16,38 +17,7 @@ use sc_base::{Class, Failed, Sink};
 use sc_gate::{Gate, Kind, Wire, write_gate};
 use std::process::ExitCode;
 
-#[derive(Drop)]
-struct Counter {
-    bytes: u64,
-    is_ended: bool,
-}
-
-impl Sink for Counter {
-    ghost use Rattle.std.specs.Prelude.{false, []};
-
-    ghost tells = { λ _. false };
-
-    ghost bytes = { λ _. [] };
-
-    ghost faults = { λ _. 0 };
-
-    ghost is_ended = { λ s. s.is_ended };
-
-    fn write(&mut self, piece: &[u8]) -> Result<usize, Failed> {
-        self.bytes = self.bytes.wrapping_add(piece.len() as u64);
-        Ok(piece.len())
-    }
-
-    fn finish(&mut self) -> Result<(), Failed> {
-        self.is_ended = true;
-        Ok(())
-    }
-
-    fn ended(&self) -> bool {
-        self.is_ended
-    }
-}
-
+''' + COUNTER_RT + '''
 fn qubit(number: u32) -> Wire {
     Wire {
         class: Class::Q,
