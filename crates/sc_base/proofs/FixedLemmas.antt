@@ -1,10 +1,10 @@
 -- The text of a fixed-point number at the front of a text: one front, one number.
-use Rattle.std.proofs.Common.{◌≡◌, ℕ, suc, ◌+◌, ◌-◌, ◌/◌, ◌%◌, ◌<◌, ◌≤◌, ◌^◌, true, false, ℤ, pos, negsuc, List, [], ◌∷◌, ◌++◌, length, take, drop, refl, sym, ap, ◌∙◌, arith, append_assoc, length-append, length-take}
+use Rattle.std.proofs.Common.{◌≡◌, ℕ, ◌+◌, ◌/◌, ◌%◌, ◌<◌, ◌≤◌, ◌^◌, ℤ, pos, negsuc, List, ◌∷◌, ◌++◌, length, take, drop, refl, sym, ap, ◌∙◌, arith, append_assoc, length-append, length-take}
 use Rattle.std.specs.Prelude.{decimal, Option, Some, None, IfSome, IfNone}
 use Rattle.std.specs.Str.Parse.{AllDigits}
 use Rattle.std.proofs.lemmas.List.{take_at, drop_at}
 use Rattle.std.proofs.lemmas.Fmt.{decimal_is_IsNumeral}
-use Rattle.sc_base.specs.Decimals.{IsDecimal, twelve_digits, units_text, fixed_text}
+use Rattle.sc_base.specs.Decimals.{IsDecimal, twelve_digits, units_text}
 use Rattle.sc_base.specs.Numerals.{EndsNumber, FixedFront}
 use Rattle.sc_base.proofs.DecimalLemmas.{length-twelve_digits, units_text-IsDecimal, units_text_injective, decimal_unique}
 use Rattle.sc_base.proofs.NumeralLemmas.{tail_is, digits_unique, decimal_digits, front_digits, no_minus_here}

@@ -1,8 +1,8 @@
 -- Texts that are read line by line: a text has one outcome.
-use Rattle.std.proofs.Common.{◌≡◌, ◌≢◌, ℕ, zero, suc, ◌+◌, ◌<◌, ◌≤◌, List, [], ◌∷◌, ◌++◌, length, refl, sym, ap, ◌∙◌, subst, arith, append_assoc, append-nil, length-append}
-use Rattle.std.specs.Prelude.{flat_map, All}
+use Rattle.std.proofs.Common.{◌≡◌, ◌≢◌, ℕ, suc, ◌+◌, ◌<◌, ◌≤◌, List, [], ◌∷◌, ◌++◌, length, refl, sym, ap, ◌∙◌, subst, arith, append_assoc, append-nil, length-append}
+use Rattle.std.specs.Prelude.{All}
 use Rattle.std.proofs.lemmas.List.Concat.{flat_map-append}
-use Rattle.sc_base.specs.Lines.{IsLine, joined, GoThrough, NeverBreaks, ReadTo, IsReadWhole, IsFirstBad, IsFirstBreak, LeadsOneWay}
+use Rattle.sc_base.specs.Lines.{IsLine, joined, GoThrough, ReadTo, IsReadWhole, IsFirstBad, IsFirstBreak, LeadsOneWay}
 
 -- two lines at the front of one text are one line
 fronts_one : (xs ys more after : List ℕ) → All (λ byte. byte ≡ 10 → ⊥) xs → All (λ byte. byte ≡ 10 → ⊥) ys →

@@ -7,7 +7,8 @@ use Rattle.sc_gate.specs.declared.gate.Wire.{Wire}
 use Rattle.sc_gate.specs.declared.gate.Gate.{Gate}
 use Rattle.sc_gate.specs.Gates.{operands}
 use Rattle.sc_gate.specs.Wires.{member}
-use Rattle.sc_cancel.specs.Keeping.{links_by, last_on, linked}
+use Rattle.sc_gate.specs.WireTables.{numbers_by}
+use Rattle.sc_cancel.specs.Keeping.{last_on, linked}
 
 pub map_some : {A B : Type 0} (f : A → B) (o : Option A) (y : B) → option_map f o ≡ Some y → (x : A) × (o ≡ Some x) × (f x ≡ y)
 map_some f None y h = cc
@@ -45,7 +46,7 @@ snoc_length (z ∷ xs) x = ap (λ (n : ℕ). suc n) (snoc_length xs x)
 pub length-linked : (marks : List (Option Gate)) → length (linked marks) ≡ length marks
 length-linked [] = refl
 length-linked (None ∷ marks) = snoc_length (linked marks) None ∙ ap (λ (n : ℕ). suc n) (length-linked marks)
-length-linked (Some g ∷ marks) = snoc_length (linked marks) (Some (links_by (last_on marks) g)) ∙ ap (λ (n : ℕ). suc n) (length-linked marks)
+length-linked (Some g ∷ marks) = snoc_length (linked marks) (Some (numbers_by (last_on marks) g)) ∙ ap (λ (n : ℕ). suc n) (length-linked marks)
 
 pub last_below : (marks : List (Option Gate)) (w : Wire) (q : ℕ) → last_on marks w ≡ Some q → q < length marks
 last_below [] w q h = cc

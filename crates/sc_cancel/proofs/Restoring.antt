@@ -10,12 +10,12 @@ use Rattle.sc_gate.specs.declared.gate.Wire.{Wire}
 use Rattle.sc_gate.specs.declared.gate.Gate.{Gate}
 use Rattle.sc_gate.specs.Gates.{operands}
 use Rattle.sc_gate.specs.Wires.{same_wire, member}
-use Rattle.sc_gate.specs.WireTables.{number_at}
+use Rattle.sc_gate.specs.WireTables.{number_at, on_wire, numbers_by}
 use Rattle.sc_gate.proofs.WireLemmas.{same_wire-true, member_here, member_later}
-use Rattle.sc_cancel.specs.declared.keeping.Links.{Links}
+use Rattle.sc_gate.specs.declared.wire_table.OperandNumbers.{OperandNumbers}
 use Rattle.sc_cancel.specs.declared.keeping.Kept.{Kept}
 use Rattle.sc_cancel.specs.Cancelling.{taken_out, with_gate, marks_after, places_of}
-use Rattle.sc_cancel.specs.Keeping.{on_wire, links_by, last_on, linked, IsKept, IsWith, IsWithout, is_operand, relinked, is_there, AreAll, places}
+use Rattle.sc_cancel.specs.Keeping.{last_on, linked, IsKept, IsWith, IsWithout, is_operand, relinked, is_there, AreAll, places}
 use Rattle.sc_cancel.proofs.Marks.{length-linked, snoc_length, slice_get_here, Agree, agree_front}
 use Rattle.sc_cancel.proofs.Taking.{undoes_operands, links_same, member_left, member_right, IsTaken, is_taken}
 
@@ -24,7 +24,7 @@ there : (f : Wire → Option ℕ) (o : Option Wire) (q : ℕ) → ((w : Wire) �
 there f None q h = tt
 there f (Some w) q h = h w (member_here w [])
 
-pub all_from : (f : Wire → Option ℕ) (g : Gate) (q : ℕ) → ((w : Wire) → member w (operands g) ≡ true → f w ≡ Some q) → AreAll (links_by f g) g q
+pub all_from : (f : Wire → Option ℕ) (g : Gate) (q : ℕ) → ((w : Wire) → member w (operands g) ≡ true → f w ≡ Some q) → AreAll (numbers_by f g) g q
 all_from f g q h = record {
   a = h g.a (member_here g.a (option_to_list g.b ++ option_to_list g.c));
   b = there f g.b q (λ w m. h w (member_later g.a w (option_to_list g.b ++ option_to_list g.c) (member_left w (option_to_list g.b) (option_to_list g.c) m)));
@@ -48,7 +48,7 @@ member_either w (v ∷ vs) ws h = elim (cases_Bool (same_wire v w)) [
   ]
 ]
 
-pub all_to : (f : Wire → Option ℕ) (g : Gate) (q : ℕ) → AreAll (links_by f g) g q → (w : Wire) → member w (operands g) ≡ true → f w ≡ Some q
+pub all_to : (f : Wire → Option ℕ) (g : Gate) (q : ℕ) → AreAll (numbers_by f g) g q → (w : Wire) → member w (operands g) ≡ true → f w ≡ Some q
 all_to f g q h w m = elim (cases_Bool (same_wire g.a w)) [
   | inl t ↦ subst (λ (x : Wire). f x ≡ Some q) (same_wire-true g.a w t) h.a
   | inr n ↦ elim (member_either w (option_to_list g.b) (option_to_list g.c) (sym (ap (λ (b : Bool). b || member w (option_to_list g.b ++ option_to_list g.c)) n) ∙ m)) [
@@ -73,7 +73,7 @@ joined_if w (v ∷ vs) ws x y = elim (cases_Bool (same_wire v w)) [
   | inr n ↦ rw n (joined_if w vs ws x y)
 ]
 
-pub relinked_is : (f : Wire → Option ℕ) (g : Gate) (w : Wire) (old : Option ℕ) → relinked (links_by f g) g w old ≡ (if member w (operands g) then f w else old)
+pub relinked_is : (f : Wire → Option ℕ) (g : Gate) (w : Wire) (old : Option ℕ) → relinked (numbers_by f g) g w old ≡ (if member w (operands g) then f w else old)
 relinked_is f g w old = elim (cases_Bool (same_wire g.a w)) [
   | inl t ↦ rw t (ap f (same_wire-true g.a w t))
   | inr n ↦ rw n
@@ -83,22 +83,22 @@ relinked_is f g w old = elim (cases_Bool (same_wire g.a w)) [
 ]
 
 -- the gate stays
-pub kept_with : (old new : Kept) (g : Gate) (marks : List (Option Gate)) → IsKept old marks → IsWith old g (links_by (number_at old.table) g) new → IsKept new (Some g ∷ marks)
+pub kept_with : (old new : Kept) (g : Gate) (marks : List (Option Gate)) → IsKept old marks → IsWith old g (numbers_by (number_at old.table) g) new → IsKept new (Some g ∷ marks)
 kept_with old new g marks k h = record {
   table = λ w. h.table w ∙ (ap (λ (n : ℕ). if member w (operands g) then Some n else number_at old.table w) (ap length k.links ∙ length-linked marks)
       ∙ ap (λ (x : Option ℕ). if member w (operands g) then Some (length marks) else x) (k.table w));
-  links = h.links ∙ (ap (λ (l : List (Option Links)). l ++ Some (links_by (number_at old.table) g) ∷ []) k.links
-      ∙ ap (λ (l : Links). linked marks ++ Some l ∷ []) (links_same (number_at old.table) (last_on marks) g (λ w m. k.table w)));
+  links = h.links ∙ (ap (λ (l : List (Option OperandNumbers)). l ++ Some (numbers_by (number_at old.table) g) ∷ []) k.links
+      ∙ ap (λ (l : OperandNumbers). linked marks ++ Some l ∷ []) (links_same (number_at old.table) (last_on marks) g (λ w m. k.table w)));
 }
 
 -- it takes another out
 pub kept_without : (gates : List Gate) (old new : Kept) (g : Gate) (marks ys : List (Option Gate)) (t : IsTaken gates g marks ys) → IsKept old marks →
-    IsWithout old t.gate t.at (links_by (last_on t.older) t.gate) new → IsKept new (None ∷ ys)
+    IsWithout old t.gate t.at (numbers_by (last_on t.older) t.gate) new → IsKept new (None ∷ ys)
 kept_without gates old new g marks ys t k h = record {
   table = λ w. h.table w ∙ (relinked_is (last_on t.older) t.gate w (number_at old.table w)
       ∙ (ap (λ (ws : List Wire). if member w ws then last_on t.older w else number_at old.table w) (undoes_operands t.gate g t.undone)
       ∙ (ap (λ (x : Option ℕ). if member w (operands g) then last_on t.older w else x) (k.table w) ∙ sym (t.now_last w))));
-  links = h.links ∙ (ap (λ (l : List (Option Links)). slice_set l t.at None ++ None ∷ []) k.links ∙ ap (λ (l : List (Option Links)). l ++ None ∷ []) (sym t.now_linked));
+  links = h.links ∙ (ap (λ (l : List (Option OperandNumbers)). slice_set l t.at None ++ None ∷ []) k.links ∙ ap (λ (l : List (Option OperandNumbers)). l ++ None ∷ []) (sym t.now_linked));
 }
 
 -- one more gate
@@ -153,7 +153,7 @@ pub places_linked : (marks : List (Option Gate)) → places 0 (linked marks) ≡
 places_linked [] = refl
 places_linked (None ∷ marks) = places-append 0 (linked marks) (None ∷ []) ∙ (append-nil (places 0 (linked marks)) ∙ places_linked marks)
 places_linked (Some g ∷ marks) =
-    places-append 0 (linked marks) (Some (links_by (last_on marks) g) ∷ [])
+    places-append 0 (linked marks) (Some (numbers_by (last_on marks) g) ∷ [])
     ∙ (ap (λ (n : ℕ). places 0 (linked marks) ++ n ∷ []) (omega (arith, length-linked marks)) ∙ ap (λ (l : List ℕ). l ++ length marks ∷ []) (places_linked marks))
 
 -- one more position in reading order

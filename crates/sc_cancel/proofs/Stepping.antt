@@ -9,17 +9,17 @@ use Rattle.sc_gate.specs.declared.gate.Wire.{Wire}
 use Rattle.sc_gate.specs.declared.gate.Gate.{Gate}
 use Rattle.sc_gate.specs.Gates.{operands, Cancels, IsWellFormed, AreWellFormed}
 use Rattle.sc_gate.specs.Wires.{member}
-use Rattle.sc_gate.specs.WireTables.{number_at}
+use Rattle.sc_gate.specs.WireTables.{number_at, on_wire, numbers_by}
 use Rattle.sc_gate.specs.Lines.{gate_line, gate_lines, flat_header, flat_text}
 use Rattle.sc_gate.proofs.WireLemmas.{member_here}
 use Rattle.sc_probe.specs.declared.rule.Rule.{Rule}
 use Rattle.sc_probe.specs.Rules.{step, folded}
 use Rattle.sc_probe.proofs.SeenLemmas.{all_more}
-use Rattle.sc_cancel.specs.declared.keeping.Links.{Links}
+use Rattle.sc_gate.specs.declared.wire_table.OperandNumbers.{OperandNumbers}
 use Rattle.sc_cancel.specs.declared.keeping.Kept.{Kept}
 use Rattle.sc_cancel.specs.Cancelling.{taken_out, with_gate, marks_after, places_of, shorter, gates_at}
 use Rattle.sc_cancel.specs.Moves.{Ascend}
-use Rattle.sc_cancel.specs.Keeping.{on_wire, links_by, last_on, linked, links_at, IsKept, IsWith, IsWithout, AreAll, AreSmall, places}
+use Rattle.sc_cancel.specs.Keeping.{last_on, linked, links_at, IsKept, IsWith, IsWithout, AreAll, AreSmall, places}
 use Rattle.sc_cancel.proofs.Marks.{some_same, none_some, length-linked, last_below, Agree}
 use Rattle.sc_cancel.proofs.Taking.{IsTaken, is_taken, taken_if, cancels_undoes, undoes_cancels}
 use Rattle.sc_cancel.proofs.Restoring.{all_from, all_to, kept_with, kept_without, with_none, with_some, marks_more, agree_after, stage, places_linked}
@@ -46,13 +46,13 @@ found_at gates g marks ys q l e t = record {
 }
 
 pub found : (gates : List Gate) (g h : Gate) (marks : List (Option Gate)) (f : Wire → Option ℕ) (q : ℕ) → Agree gates marks → ((w : Wire) → f w ≡ last_on marks w) →
-    AreAll (links_by f g) g q → slice_get gates q ≡ Some h → Cancels h g → IsFound gates g marks q
+    AreAll (numbers_by f g) g q → slice_get gates q ≡ Some h → Cancels h g → IsFound gates g marks q
 found gates g h marks f q a same all e c =
     let last : (w : Wire) → member w (operands g) ≡ true → last_on marks w ≡ Some q = λ w m. sym (same w) ∙ all_to f g q all w m in
     let t = taken_if gates g marks q h a last e (cancels_undoes h g c) in
     found_at gates g marks t.0 q (last g.a (member_here g.a (option_to_list g.b ++ option_to_list g.c))) t.1 (is_taken gates g marks t.0 a t.1)
 
-pub found_below : (gates : List Gate) (g : Gate) (marks : List (Option Gate)) (f : Wire → Option ℕ) (q : ℕ) → ((w : Wire) → f w ≡ last_on marks w) → AreAll (links_by f g) g q → q < length marks
+pub found_below : (gates : List Gate) (g : Gate) (marks : List (Option Gate)) (f : Wire → Option ℕ) (q : ℕ) → ((w : Wire) → f w ≡ last_on marks w) → AreAll (numbers_by f g) g q → q < length marks
 found_below gates g marks f q same all =
     last_below marks g.a q (sym (same g.a) ∙ all_to f g q all g.a (member_here g.a (option_to_list g.b ++ option_to_list g.c)))
 
@@ -61,8 +61,8 @@ pub found_gate : (gates : List Gate) (g h : Gate) (marks : List (Option Gate)) (
 found_gate gates g h marks q t e = some_same t.taken.gate h (sym t.taken.stands ∙ (ap (slice_get gates) t.is_at ∙ e))
 
 pub found_links : (gates : List Gate) (g : Gate) (marks : List (Option Gate)) (q : ℕ) (old : Kept) (t : IsFound gates g marks q) → IsKept old marks →
-    links_at old.links.items q ≡ Some (links_by (last_on t.taken.older) t.taken.gate)
-found_links gates g marks q old t k = ap (λ (l : List (Option Links)). links_at l q) k.links ∙ (ap (links_at (linked marks)) (sym t.is_at) ∙ t.taken.link)
+    links_at old.links.items q ≡ Some (numbers_by (last_on t.taken.older) t.taken.gate)
+found_links gates g marks q old t k = ap (λ (l : List (Option OperandNumbers)). links_at l q) k.links ∙ (ap (links_at (linked marks)) (sym t.is_at) ∙ t.taken.link)
 
 small_number : (older : List (Option Gate)) (w : Wire) (o : Option ℕ) → length older < 4294967295 → last_on older w ≡ o → IfSome o (λ n. n < 4294967295)
 small_number older w None l e = tt
@@ -72,35 +72,35 @@ small_on : (older : List (Option Gate)) (o : Option Wire) → length older < 429
 small_on older None l = tt
 small_on older (Some w) l = small_number older w (last_on older w) l refl
 
-small_links : (older : List (Option Gate)) (h : Gate) → length older < 4294967295 → AreSmall (links_by (last_on older) h)
+small_links : (older : List (Option Gate)) (h : Gate) → length older < 4294967295 → AreSmall (numbers_by (last_on older) h)
 small_links older h l = record { a = small_number older h.a (last_on older h.a) l refl; b = small_on older h.b l; c = small_on older h.c l }
 
 pub found_small : (gates : List Gate) (g : Gate) (marks : List (Option Gate)) (q : ℕ) (old : Kept) (t : IsFound gates g marks q) → IsKept old marks → length marks ≤ 4194304 →
     IfSome (links_at old.links.items q) AreSmall
 found_small gates g marks q old t k many =
-    subst (λ (o : Option Links). IfSome o AreSmall) (sym (found_links gates g marks q old t k))
+    subst (λ (o : Option OperandNumbers). IfSome o AreSmall) (sym (found_links gates g marks q old t k))
     (small_links t.taken.older t.taken.gate (omega (arith, t.taken.fewer, t.taken.below, many)))
 
 pub found_kept : (gates : List Gate) (g h : Gate) (marks : List (Option Gate)) (q : ℕ) (old new : Kept) (t : IsFound gates g marks q) → IsKept old marks → slice_get gates q ≡ Some h →
-    ((links : Links) → links_at old.links.items q ≡ Some links → IsWithout old h q links new) → IsKept new (with_gate marks g)
+    ((links : OperandNumbers) → links_at old.links.items q ≡ Some links → IsWithout old h q links new) → IsKept new (with_gate marks g)
 found_kept gates g h marks q old new t k e w =
-    let at_gate : IsWithout old h q (links_by (last_on t.taken.older) t.taken.gate) new = w (links_by (last_on t.taken.older) t.taken.gate) (found_links gates g marks q old t k) in
-    let at_same : IsWithout old t.taken.gate q (links_by (last_on t.taken.older) t.taken.gate) new =
-    subst (λ (x : Gate). IsWithout old x q (links_by (last_on t.taken.older) t.taken.gate) new) (sym (found_gate gates g h marks q t e)) at_gate in
-    let at_place : IsWithout old t.taken.gate t.taken.at (links_by (last_on t.taken.older) t.taken.gate) new =
-    subst (λ (n : ℕ). IsWithout old t.taken.gate n (links_by (last_on t.taken.older) t.taken.gate) new) (sym t.is_at) at_same in
+    let at_gate : IsWithout old h q (numbers_by (last_on t.taken.older) t.taken.gate) new = w (numbers_by (last_on t.taken.older) t.taken.gate) (found_links gates g marks q old t k) in
+    let at_same : IsWithout old t.taken.gate q (numbers_by (last_on t.taken.older) t.taken.gate) new =
+    subst (λ (x : Gate). IsWithout old x q (numbers_by (last_on t.taken.older) t.taken.gate) new) (sym (found_gate gates g h marks q t e)) at_gate in
+    let at_place : IsWithout old t.taken.gate t.taken.at (numbers_by (last_on t.taken.older) t.taken.gate) new =
+    subst (λ (n : ℕ). IsWithout old t.taken.gate n (numbers_by (last_on t.taken.older) t.taken.gate) new) (sym t.is_at) at_same in
     subst (IsKept new) (sym (with_some marks t.ys g t.out)) (kept_without gates old new g marks t.ys t.taken k at_place)
 
 -- where no gate is the last one on all wires and cancels g, none is taken out
 not_found_by : (gates : List Gate) (g : Gate) (marks : List (Option Gate)) (f : Wire → Option ℕ) (o : Option (List (Option Gate))) → Agree gates marks → ((w : Wire) → f w ≡ last_on marks w) → AreWellFormed gates → IsWellFormed g →
-    ((q : ℕ) (h : Gate) → AreAll (links_by f g) g q → slice_get gates q ≡ Some h → Cancels h g → ⊥) → taken_out g marks ≡ o → o ≡ None
+    ((q : ℕ) (h : Gate) → AreAll (numbers_by f g) g q → slice_get gates q ≡ Some h → Cancels h g → ⊥) → taken_out g marks ≡ o → o ≡ None
 not_found_by gates g marks f None a same wf wg never e = refl
 not_found_by gates g marks f (Some ys) a same wf wg never e =
     let t : IsTaken gates g marks ys = is_taken gates g marks ys a e in
     absurd (never t.at t.gate (all_from f g t.at (λ w m. same w ∙ t.last w m)) t.stands (undoes_cancels t.gate g (well_at gates t.at t.gate wf t.stands) wg t.undone))
 
 pub not_found : (gates : List Gate) (g : Gate) (marks : List (Option Gate)) (f : Wire → Option ℕ) → Agree gates marks → ((w : Wire) → f w ≡ last_on marks w) → AreWellFormed gates → IsWellFormed g →
-    ((q : ℕ) (h : Gate) → AreAll (links_by f g) g q → slice_get gates q ≡ Some h → Cancels h g → ⊥) → taken_out g marks ≡ None
+    ((q : ℕ) (h : Gate) → AreAll (numbers_by f g) g q → slice_get gates q ≡ Some h → Cancels h g → ⊥) → taken_out g marks ≡ None
 not_found gates g marks f a same wf wg never = not_found_by gates g marks f (taken_out g marks) a same wf wg never refl
 
 -- the line at a position
@@ -138,48 +138,48 @@ many_marks gates old k = sym (length-linked (so_far gates old)) ∙ ap length (s
 pub room_left : (gates : List Gate) (g : Gate) (old : Kept) → IsKept old (so_far gates old) → slice_get gates (length old.links.items) ≡ Some g → length (so_far gates old) < length gates
 room_left gates g old k next = (let l : length old.links.items < length gates = slice_get_within gates (length old.links.items) g next in omega (arith, l, many_marks gates old k))
 
-all_by : (g : Gate) (old : Kept) (links : Links) (q : ℕ) → links ≡ links_by (number_at old.table) g → AreAll links g q → AreAll (links_by (number_at old.table) g) g q
-all_by g old links q e a = subst (λ (l : Links). AreAll l g q) e a
+all_by : (g : Gate) (old : Kept) (links : OperandNumbers) (q : ℕ) → links ≡ numbers_by (number_at old.table) g → AreAll links g q → AreAll (numbers_by (number_at old.table) g) g q
+all_by g old links q e a = subst (λ (l : OperandNumbers). AreAll l g q) e a
 
-pub there_below : (gates : List Gate) (g : Gate) (old : Kept) (links : Links) (q : ℕ) → IsKept old (so_far gates old) → slice_get gates (length old.links.items) ≡ Some g →
-    links ≡ links_by (number_at old.table) g → AreAll links g q → q < length gates
+pub there_below : (gates : List Gate) (g : Gate) (old : Kept) (links : OperandNumbers) (q : ℕ) → IsKept old (so_far gates old) → slice_get gates (length old.links.items) ≡ Some g →
+    links ≡ numbers_by (number_at old.table) g → AreAll links g q → q < length gates
 there_below gates g old links q k next e a =
     let l : q < length (so_far gates old) = found_below gates g (so_far gates old) (number_at old.table) q k.table (all_by g old links q e a) in
     omega (arith, l, room_left gates g old k next)
 
-pub found_next : (gates : List Gate) (g : Gate) (old : Kept) (links : Links) (q : ℕ) (d : Gate) → IsKept old (so_far gates old) → slice_get gates (length old.links.items) ≡ Some g →
-    links ≡ links_by (number_at old.table) g → AreAll links g q → Cancels (get_or gates q d) g → IsFound gates g (so_far gates old) q
+pub found_next : (gates : List Gate) (g : Gate) (old : Kept) (links : OperandNumbers) (q : ℕ) (d : Gate) → IsKept old (so_far gates old) → slice_get gates (length old.links.items) ≡ Some g →
+    links ≡ numbers_by (number_at old.table) g → AreAll links g q → Cancels (get_or gates q d) g → IsFound gates g (so_far gates old) q
 found_next gates g old links q d k next e a c =
     found gates g (get_or gates q d) (so_far gates old) (number_at old.table) q (agree_after gates (length old.links.items)) k.table (all_by g old links q e a)
     (slice_get-get_or gates q d (there_below gates g old links q k next e a)) c
 
-pub kept_found : (gates : List Gate) (g : Gate) (old new : Kept) (links : Links) (q : ℕ) (d : Gate) → IsKept old (so_far gates old) → slice_get gates (length old.links.items) ≡ Some g →
-    links ≡ links_by (number_at old.table) g → AreAll links g q → Cancels (get_or gates q d) g →
-    ((before : Links) → links_at old.links.items q ≡ Some before → IsWithout old (get_or gates q d) q before new) → IsKept new (marks_after (take (length old.links.items + 1) gates))
+pub kept_found : (gates : List Gate) (g : Gate) (old new : Kept) (links : OperandNumbers) (q : ℕ) (d : Gate) → IsKept old (so_far gates old) → slice_get gates (length old.links.items) ≡ Some g →
+    links ≡ numbers_by (number_at old.table) g → AreAll links g q → Cancels (get_or gates q d) g →
+    ((before : OperandNumbers) → links_at old.links.items q ≡ Some before → IsWithout old (get_or gates q d) q before new) → IsKept new (marks_after (take (length old.links.items + 1) gates))
 kept_found gates g old new links q d k next e a c w =
     subst (IsKept new) (sym (marks_more gates (length old.links.items) g next))
     (found_kept gates g (get_or gates q d) (so_far gates old) q old new (found_next gates g old links q d k next e a c) k
     (slice_get-get_or gates q d (there_below gates g old links q k next e a)) w)
 
-pub kept_alone : (gates : List Gate) (g : Gate) (old new : Kept) (links : Links) → IsKept old (so_far gates old) → slice_get gates (length old.links.items) ≡ Some g →
-    links ≡ links_by (number_at old.table) g → taken_out g (so_far gates old) ≡ None → IsWith old g links new → IsKept new (marks_after (take (length old.links.items + 1) gates))
+pub kept_alone : (gates : List Gate) (g : Gate) (old new : Kept) (links : OperandNumbers) → IsKept old (so_far gates old) → slice_get gates (length old.links.items) ≡ Some g →
+    links ≡ numbers_by (number_at old.table) g → taken_out g (so_far gates old) ≡ None → IsWith old g links new → IsKept new (marks_after (take (length old.links.items + 1) gates))
 kept_alone gates g old new links k next e none w =
     subst (IsKept new) (sym (marks_more gates (length old.links.items) g next ∙ with_none (so_far gates old) g none))
-    (kept_with old new g (so_far gates old) k (subst (λ (l : Links). IsWith old g l new) e w))
+    (kept_with old new g (so_far gates old) k (subst (λ (l : OperandNumbers). IsWith old g l new) e w))
 
 -- no gate is the last one on all wires
-pub none_common : (gates : List Gate) (g : Gate) (old : Kept) (links : Links) → AreWellFormed gates → IsKept old (so_far gates old) → slice_get gates (length old.links.items) ≡ Some g →
-    links ≡ links_by (number_at old.table) g → ((q : ℕ) → AreAll links g q → ⊥) → taken_out g (so_far gates old) ≡ None
+pub none_common : (gates : List Gate) (g : Gate) (old : Kept) (links : OperandNumbers) → AreWellFormed gates → IsKept old (so_far gates old) → slice_get gates (length old.links.items) ≡ Some g →
+    links ≡ numbers_by (number_at old.table) g → ((q : ℕ) → AreAll links g q → ⊥) → taken_out g (so_far gates old) ≡ None
 none_common gates g old links wf k next e never =
     not_found gates g (so_far gates old) (number_at old.table) (agree_after gates (length old.links.items)) k.table wf (well_at gates (length old.links.items) g wf next)
-    (λ q h a s c. never q (subst (λ (l : Links). AreAll l g q) (sym e) a))
+    (λ q h a s c. never q (subst (λ (l : OperandNumbers). AreAll l g q) (sym e) a))
 
 -- one is, but the two do not cancel
-pub none_cancels : (gates : List Gate) (g : Gate) (old : Kept) (links : Links) (q : ℕ) (d : Gate) → AreWellFormed gates → IsKept old (so_far gates old) → slice_get gates (length old.links.items) ≡ Some g →
-    links ≡ links_by (number_at old.table) g → AreAll links g q → (Cancels (get_or gates q d) g → ⊥) → taken_out g (so_far gates old) ≡ None
+pub none_cancels : (gates : List Gate) (g : Gate) (old : Kept) (links : OperandNumbers) (q : ℕ) (d : Gate) → AreWellFormed gates → IsKept old (so_far gates old) → slice_get gates (length old.links.items) ≡ Some g →
+    links ≡ numbers_by (number_at old.table) g → AreAll links g q → (Cancels (get_or gates q d) g → ⊥) → taken_out g (so_far gates old) ≡ None
 none_cancels gates g old links q d wf k next e a never =
     not_found gates g (so_far gates old) (number_at old.table) (agree_after gates (length old.links.items)) k.table wf (well_at gates (length old.links.items) g wf next)
-    (λ p h b s c. (let same : p ≡ q = some_same p q (sym b.a ∙ (ap (λ (l : Links). l.a) (sym e) ∙ a.a)) in
+    (λ p h b s c. (let same : p ≡ q = some_same p q (sym b.a ∙ (ap (λ (l : OperandNumbers). l.a) (sym e) ∙ a.a)) in
     let is : get_or gates q d ≡ h = some_same (get_or gates q d) h (sym (slice_get-get_or gates q d (there_below gates g old links q k next e a)) ∙ (ap (slice_get gates) (sym same) ∙ s)) in
     never (subst (λ (x : Gate). Cancels x g) (sym is) c)))
 

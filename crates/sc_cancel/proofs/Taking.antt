@@ -8,9 +8,10 @@ use Rattle.sc_gate.specs.declared.gate.Gate.{Gate}
 use Rattle.sc_gate.specs.Gates.{operands, undo, Cancels, IsWellFormed}
 use Rattle.sc_gate.specs.Wires.{same_wire, member, shares}
 use Rattle.sc_gate.proofs.WireLemmas.{same_wire-true, same_wire-refl, member_here, member_later, shares_tells}
-use Rattle.sc_cancel.specs.declared.keeping.Links.{Links}
+use Rattle.sc_gate.specs.declared.wire_table.OperandNumbers.{OperandNumbers}
 use Rattle.sc_cancel.specs.Cancelling.{same_wires, undoes, taken_out}
-use Rattle.sc_cancel.specs.Keeping.{on_wire, links_by, last_on, linked, links_at, joined}
+use Rattle.sc_gate.specs.WireTables.{on_wire, numbers_by}
+use Rattle.sc_cancel.specs.Keeping.{last_on, linked, links_at, joined}
 use Rattle.sc_cancel.proofs.Marks.{map_some, some_same, none_some, slice_get_here, set_here, set_front, length-linked, Agree}
 
 both : (s t : Bool) → (s && t) ≡ true → (s ≡ true) × (t ≡ true)
@@ -72,11 +73,11 @@ on_same : (f f2 : Wire → Option ℕ) (o : Option Wire) → ((w : Wire) → mem
 on_same f f2 None h = refl
 on_same f f2 (Some w) h = h w (member_here w [])
 
-unfoldable made : Option ℕ → Option ℕ → Option ℕ → Links
+unfoldable made : Option ℕ → Option ℕ → Option ℕ → OperandNumbers
 made a b c = record { a = a; b = b; c = c }
 
 -- the links are fixed by the numbers of the operands
-pub links_same : (f f2 : Wire → Option ℕ) (g : Gate) → ((w : Wire) → member w (operands g) ≡ true → f w ≡ f2 w) → links_by f g ≡ links_by f2 g
+pub links_same : (f f2 : Wire → Option ℕ) (g : Gate) → ((w : Wire) → member w (operands g) ≡ true → f w ≡ f2 w) → numbers_by f g ≡ numbers_by f2 g
 unfolding made
 links_same f f2 g h =
     let a : f g.a ≡ f2 g.a = h g.a (member_here g.a (option_to_list g.b ++ option_to_list g.c)) in
@@ -96,13 +97,13 @@ pub record IsTaken (gates : List Gate) (g : Gate) (marks ys : List (Option Gate)
   pub fewer : length older ≤ at
   pub undone : undoes gate g ≡ true
   pub last : (w : Wire) → member w (operands g) ≡ true → last_on marks w ≡ Some at
-  pub link : links_at (linked marks) at ≡ Some (links_by (last_on older) gate)
+  pub link : links_at (linked marks) at ≡ Some (numbers_by (last_on older) gate)
   pub now_last : (w : Wire) → last_on ys w ≡ (if member w (operands g) then last_on older w else last_on marks w)
   pub now_linked : linked ys ≡ slice_set (linked marks) at None
   pub many : length ys ≡ length marks
   pub agree : Agree gates ys
 
-links_front : (all back : List (Option Links)) (q : ℕ) (l : Links) → links_at all q ≡ Some l → links_at (all ++ back) q ≡ Some l
+links_front : (all back : List (Option OperandNumbers)) (q : ℕ) (l : OperandNumbers) → links_at all q ≡ Some l → links_at (all ++ back) q ≡ Some l
 links_front [] back q l h = cc
 links_front (o ∷ all) back zero l h = h
 links_front (o ∷ all) back (suc q) l h = links_front all back q l h
@@ -117,10 +118,10 @@ taken_none gates g marks ys t = record {
   fewer = t.fewer;
   undone = t.undone;
   last = t.last;
-  link = links_front (linked marks) (None ∷ []) t.at (links_by (last_on t.older) t.gate) t.link;
+  link = links_front (linked marks) (None ∷ []) t.at (numbers_by (last_on t.older) t.gate) t.link;
   now_last = t.now_last;
   now_linked =
-      ap (λ (l : List (Option Links)). l ++ None ∷ []) t.now_linked
+      ap (λ (l : List (Option OperandNumbers)). l ++ None ∷ []) t.now_linked
       ∙ sym (set_front (linked marks) (None ∷ []) t.at None (subst (λ (n : ℕ). t.at < n) (sym (length-linked marks)) t.below));
   many = ap (λ (n : ℕ). suc n) t.many;
   agree = t.agree;
@@ -148,13 +149,13 @@ taken_here gates g h marks u a =
       last = λ w m. (let k : member w (operands h) ≡ true = ap (λ (ws : List Wire). member w ws) same ∙ m in rw k refl);
       link =
           ap joined
-          (ap (λ (n : ℕ). slice_get (linked marks ++ Some (links_by (last_on marks) h) ∷ []) n) (sym (length-linked marks))
-          ∙ slice_get_here (linked marks) (Some (links_by (last_on marks) h)) []);
+          (ap (λ (n : ℕ). slice_get (linked marks ++ Some (numbers_by (last_on marks) h) ∷ []) n) (sym (length-linked marks))
+          ∙ slice_get_here (linked marks) (Some (numbers_by (last_on marks) h)) []);
       now_last = λ w. gone_last g h marks w same;
       now_linked =
           sym
-          (ap (λ (n : ℕ). slice_set (linked marks ++ Some (links_by (last_on marks) h) ∷ []) n None) (sym (length-linked marks))
-          ∙ set_here (linked marks) (Some (links_by (last_on marks) h)) None);
+          (ap (λ (n : ℕ). slice_set (linked marks ++ Some (numbers_by (last_on marks) h) ∷ []) n None) (sym (length-linked marks))
+          ∙ set_here (linked marks) (Some (numbers_by (last_on marks) h)) None);
       many = refl;
       agree = a.1;
     }
@@ -171,7 +172,7 @@ later_last gates g h marks ys t s w = elim (cases_Bool (member w (operands g))) 
 ]
 
 later_links : (gates : List Gate) (g h : Gate) (marks ys : List (Option Gate)) (t : IsTaken gates g marks ys) → shares g h ≡ false →
-    links_by (last_on ys) h ≡ links_by (last_on marks) h
+    numbers_by (last_on ys) h ≡ numbers_by (last_on marks) h
 later_links gates g h marks ys t s = links_same (last_on ys) (last_on marks) h (λ w m. (let f : member w (operands g) ≡ false = apart_back g h w s m in t.now_last w ∙ rw f refl))
 
 taken_later : (gates : List Gate) (g h : Gate) (marks ys : List (Option Gate)) → shares g h ≡ false → slice_get gates (length marks) ≡ Some h → IsTaken gates g marks ys → IsTaken gates g (Some h ∷ marks) (Some h ∷ ys)
@@ -184,12 +185,12 @@ taken_later gates g h marks ys s a t = record {
   fewer = t.fewer;
   undone = t.undone;
   last = λ w m. (let k : member w (operands h) ≡ false = apart g h w s m in rw k (t.last w m));
-  link = links_front (linked marks) (Some (links_by (last_on marks) h) ∷ []) t.at (links_by (last_on t.older) t.gate) t.link;
+  link = links_front (linked marks) (Some (numbers_by (last_on marks) h) ∷ []) t.at (numbers_by (last_on t.older) t.gate) t.link;
   now_last = later_last gates g h marks ys t s;
   now_linked =
-      ap (λ (l : List (Option Links)). l ++ Some (links_by (last_on ys) h) ∷ []) t.now_linked
-      ∙ (ap (λ (l : Links). slice_set (linked marks) t.at None ++ Some l ∷ []) (later_links gates g h marks ys t s)
-      ∙ sym (set_front (linked marks) (Some (links_by (last_on marks) h) ∷ []) t.at None (subst (λ (n : ℕ). t.at < n) (sym (length-linked marks)) t.below)));
+      ap (λ (l : List (Option OperandNumbers)). l ++ Some (numbers_by (last_on ys) h) ∷ []) t.now_linked
+      ∙ (ap (λ (l : OperandNumbers). slice_set (linked marks) t.at None ++ Some l ∷ []) (later_links gates g h marks ys t s)
+      ∙ sym (set_front (linked marks) (Some (numbers_by (last_on marks) h) ∷ []) t.at None (subst (λ (n : ℕ). t.at < n) (sym (length-linked marks)) t.below)));
   many = ap (λ (n : ℕ). suc n) t.many;
   agree = (subst (λ (n : ℕ). slice_get gates n ≡ Some h) (sym t.many) a, t.agree);
 }

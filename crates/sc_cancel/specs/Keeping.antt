@@ -4,17 +4,9 @@ use Rattle.sc_gate.specs.declared.gate.Wire.{Wire}
 use Rattle.sc_gate.specs.declared.gate.Gate.{Gate}
 use Rattle.sc_gate.specs.Gates.{operands}
 use Rattle.sc_gate.specs.Wires.{same_wire, member}
-use Rattle.sc_gate.specs.WireTables.{number_at}
-use Rattle.sc_cancel.specs.declared.keeping.Links.{Links}
+use Rattle.sc_gate.specs.declared.wire_table.OperandNumbers.{OperandNumbers}
+use Rattle.sc_gate.specs.WireTables.{number_at, numbers_by}
 use Rattle.sc_cancel.specs.declared.keeping.Kept.{Kept}
-
-abbrev pub on_wire : (Wire → Option ℕ) → Option Wire → Option ℕ
-on_wire f None = None
-on_wire f (Some w) = f w
-
--- the number of each operand of the gate
-abbrev pub links_by : (Wire → Option ℕ) → Gate → Links
-links_by f gate = record { a = f gate.a; b = on_wire f gate.b; c = on_wire f gate.c }
 
 -- the position of the last gate that stays and has the wire
 abbrev pub last_on : List (Option Gate) → Wire → Option ℕ
@@ -23,21 +15,21 @@ last_on (None ∷ marks) w = last_on marks w
 last_on (Some g ∷ marks) w = if member w (operands g) then Some (length marks) else last_on marks w
 
 -- for each position where a gate stays, in reading order, the last ones before it on its wires
-abbrev pub linked : List (Option Gate) → List (Option Links)
+abbrev pub linked : List (Option Gate) → List (Option OperandNumbers)
 linked [] = []
 linked (None ∷ marks) = linked marks ++ None ∷ []
-linked (Some g ∷ marks) = linked marks ++ Some (links_by (last_on marks) g) ∷ []
+linked (Some g ∷ marks) = linked marks ++ Some (numbers_by (last_on marks) g) ∷ []
 
 pub record IsKept (kept : Kept) (marks : List (Option Gate)) : Type 0 where
   pub table : (w : Wire) → number_at kept.table w ≡ last_on marks w
   pub links : kept.links.items ≡ linked marks
 
 -- the links at a position
-abbrev pub joined : Option (Option Links) → Option Links
+abbrev pub joined : Option (Option OperandNumbers) → Option OperandNumbers
 joined None = None
 joined (Some o) = o
 
-abbrev pub links_at : List (Option Links) → ℕ → Option Links
+abbrev pub links_at : List (Option OperandNumbers) → ℕ → Option OperandNumbers
 links_at all q = joined (slice_get all q)
 
 abbrev pub is_operand : Option Wire → Wire → Bool
@@ -45,7 +37,7 @@ is_operand None w = false
 is_operand (Some v) w = same_wire v w
 
 -- the number of a wire where the operands of the gate have these and every other wire has its old one
-abbrev pub relinked : Links → Gate → Wire → Option ℕ → Option ℕ
+abbrev pub relinked : OperandNumbers → Gate → Wire → Option ℕ → Option ℕ
 relinked links gate w old =
     if same_wire gate.a w then links.a else (if is_operand gate.b w then links.b else (if is_operand gate.c w then links.c else old))
 
@@ -55,24 +47,24 @@ is_there None number q = Unit {0}
 is_there (Some w) number q = number ≡ Some q
 
 -- each operand has this number
-pub record AreAll (links : Links) (gate : Gate) (q : ℕ) : Type 0 where
+pub record AreAll (links : OperandNumbers) (gate : Gate) (q : ℕ) : Type 0 where
   pub a : links.a ≡ Some q
   pub b : is_there gate.b links.b q
   pub c : is_there gate.c links.c q
 
 -- each number has 32 bits and is not the greatest of them
-pub record AreSmall (links : Links) : Type 0 where
+pub record AreSmall (links : OperandNumbers) : Type 0 where
   pub a : IfSome links.a (λ n. n < 4294967295)
   pub b : IfSome links.b (λ n. n < 4294967295)
   pub c : IfSome links.c (λ n. n < 4294967295)
 
 -- the gate stays, as the last one, with these links before it
-pub record IsWith (old : Kept) (gate : Gate) (before : Links) (new : Kept) : Type 0 where
+pub record IsWith (old : Kept) (gate : Gate) (before : OperandNumbers) (new : Kept) : Type 0 where
   pub table : (w : Wire) → number_at new.table w ≡ (if member w (operands gate) then Some (length old.links.items) else number_at old.table w)
   pub links : new.links.items ≡ old.links.items ++ Some before ∷ []
 
 -- neither the gate stays nor the one at q, which had these links
-pub record IsWithout (old : Kept) (gate : Gate) (q : ℕ) (before : Links) (new : Kept) : Type 0 where
+pub record IsWithout (old : Kept) (gate : Gate) (q : ℕ) (before : OperandNumbers) (new : Kept) : Type 0 where
   pub table : (w : Wire) → number_at new.table w ≡ relinked before gate w (number_at old.table w)
   pub links : new.links.items ≡ slice_set old.links.items q None ++ None ∷ []
 

@@ -3,32 +3,14 @@ ghost use Rattle.std.specs.Prelude.{◌≡◌, ◌↔◌, IsTrue, ◌+◌, ◌<�
 ghost use Rattle.sc_gate.specs.declared.gate.Wire.{Wire as WireValue};
 ghost use Rattle.sc_gate.specs.Gates.{operands, AreWellFormed};
 ghost use Rattle.sc_gate.specs.Wires.{same_wire, member};
-ghost use Rattle.sc_gate.specs.WireTables.{number_at};
-ghost use Rattle.sc_cancel.specs.declared.keeping.Links.{Links as LinksValue};
+ghost use Rattle.sc_gate.specs.WireTables.{number_at, numbers_by};
+ghost use Rattle.sc_gate.specs.declared.wire_table.OperandNumbers.{OperandNumbers as Numbers};
 ghost use Rattle.sc_cancel.specs.Cancelling.{marks_after};
-ghost use Rattle.sc_cancel.specs.Keeping.{on_wire, links_by, links_at, relinked, is_there, AreAll, AreSmall, IsKept, IsWith, IsWithout, places};
+ghost use Rattle.sc_cancel.specs.Keeping.{links_at, relinked, is_there, AreAll, AreSmall, IsKept, IsWith, IsWithout, places};
 
 use sc_base::{List as Items, Memory};
-use sc_gate::{Gate, Wire, WireTable, cancels};
+use sc_gate::{Gate, OperandNumbers, Wire, WireTable, cancels};
 use std::alloc::Global;
-
-/// For each operand of a gate, the position of the last gate before it that stays and has that wire.
-#[derive(Clone, Copy)]
-pub struct Links {
-    pub a: Option<u32>,
-    pub b: Option<u32>,
-    pub c: Option<u32>,
-}
-
-/// The number of an operand, where it is there.
-fn number_on(table: &WireTable, wire: Option<Wire>) -> Option<u32>
-    ensures { result ≡ on_wire (number_at table.now) wire }
-{
-    match wire {
-        Some(wire) => table.get(wire),
-        None => None,
-    }
-}
 
 /// Gives the wire this number, or none.
 fn set_number(table: &mut WireTable, wire: Wire, number: Option<u32>) -> Result<(), Memory>
@@ -49,50 +31,38 @@ fn agrees(wire: Option<Wire>, number: Option<u32>, last: u32) -> bool
     wire.is_none() || number == Some(last)
 }
 
-impl Links {
-    fn of(table: &WireTable, gate: &Gate) -> Links
-        ensures { result ≡ links_by (number_at table.now) gate.now }
-    {
-        Links {
-            a: table.get(gate.a),
-            b: number_on(table, gate.b),
-            c: number_on(table, gate.c),
-        }
-    }
-
-    /// The number that all operands of the gate have.
-    fn common(&self, gate: &Gate) -> Option<u32>
-        ensures some { IfSome result (λ q. AreAll self.now gate.now q) }
-        ensures none { IfNone result ((q : ℕ) → AreAll self.now gate.now q → ⊥) }
-    {
-        let last = self.a?;
-        if agrees(gate.b, self.b, last) && agrees(gate.c, self.c, last) {
-            Some(last)
-        } else {
-            None
-        }
-    }
-
-    /// Gives each operand of the gate its number of these.
-    fn restore(&self, gate: &Gate, table: &mut WireTable) -> Result<(), Memory>
-        requires { AreSmall self.now }
-        ensures { OnOk result ((other : WireValue) → number_at table.new other ≡ relinked self.now gate.now other (number_at table.old other)) }
-    {
-        if let Some(wire) = gate.c {
-            set_number(table, wire, self.c)?;
-        }
-        if let Some(wire) = gate.b {
-            set_number(table, wire, self.b)?;
-        }
-        set_number(table, gate.a, self.a)
+/// The number that all operands of the gate have.
+fn common(links: &OperandNumbers, gate: &Gate) -> Option<u32>
+    ensures some { IfSome result (λ q. AreAll links.now gate.now q) }
+    ensures none { IfNone result ((q : ℕ) → AreAll links.now gate.now q → ⊥) }
+{
+    let last = links.a?;
+    if agrees(gate.b, links.b, last) && agrees(gate.c, links.c, last) {
+        Some(last)
+    } else {
+        None
     }
 }
 
-/// The gates that stay: the last one on each wire, and for each the ones before it on its wires.
+/// Gives each operand of the gate its number of these.
+fn restore(links: &OperandNumbers, gate: &Gate, table: &mut WireTable) -> Result<(), Memory>
+    requires { AreSmall links.now }
+    ensures { OnOk result ((other : WireValue) → number_at table.new other ≡ relinked links.now gate.now other (number_at table.old other)) }
+{
+    if let Some(wire) = gate.c {
+        set_number(table, wire, links.c)?;
+    }
+    if let Some(wire) = gate.b {
+        set_number(table, wire, links.b)?;
+    }
+    set_number(table, gate.a, links.a)
+}
+
+/// The gates that stay: the last one on each wire, and for each the positions of the last ones before it on its wires.
 #[derive(Drop)]
 pub struct Kept {
     pub table: WireTable,
-    pub links: Vec<Option<Links>>,
+    pub links: Vec<Option<OperandNumbers>>,
 }
 
 impl Kept {
@@ -114,8 +84,8 @@ impl Kept {
         requires kept { IsKept self.old (marks_after (take (length self.old.links.items) gates.now)) }
         ensures { OnOk result (IsKept self.new (marks_after (take (length self.old.links.items + 1) gates.now))) }
     {
-        let links = Links::of(&self.table, gate);
-        match links.common(gate) {
+        let links = self.table.operand_numbers(gate);
+        match common(&links, gate) {
             Some(last) if cancels(&gates[last as usize], gate) => self.take_out(
                 &gates[last as usize],
                 last,
@@ -125,7 +95,7 @@ impl Kept {
     }
 
     /// The gate stays.
-    fn keep(&mut self, gate: &Gate, links: Links) -> Result<(), Memory>
+    fn keep(&mut self, gate: &Gate, links: OperandNumbers) -> Result<(), Memory>
         requires { length self.old.links.items < u32.MAX }
         ensures { OnOk result (IsWith self.old gate.now links self.new) }
     {
@@ -138,10 +108,10 @@ impl Kept {
     fn take_out(&mut self, gate: &Gate, last: u32) -> Result<(), Memory>
         requires there { IsSome (links_at self.old.links.items last) }
         requires small { IfSome (links_at self.old.links.items last) AreSmall }
-        ensures { OnOk result ((links : LinksValue) → links_at self.old.links.items last ≡ Some links → IsWithout self.old gate.now last links self.new) }
+        ensures { OnOk result ((links : Numbers) → links_at self.old.links.items last ≡ Some links → IsWithout self.old gate.now last links self.new) }
     {
         let links = self.links[last as usize].take().unwrap();
-        links.restore(gate, &mut self.table)?;
+        restore(&links, gate, &mut self.table)?;
         self.links.push(None)?;
         Ok(())
     }

@@ -6,7 +6,9 @@ use Rattle.sc_base.specs.declared.names.Class.{Class}
 use Rattle.sc_base.specs.declared.names.Class.TheVariants.{Q, C}
 use Rattle.sc_gate.specs.declared.gate.Wire.{Wire}
 use Rattle.sc_gate.specs.declared.wire_table.ClassTable.{ClassTable}
+use Rattle.sc_gate.specs.declared.gate.Gate.{Gate}
 use Rattle.sc_gate.specs.declared.wire_table.WireTable.{WireTable}
+use Rattle.sc_gate.specs.declared.wire_table.OperandNumbers.{OperandNumbers}
 
 -- the number one below a mark, where there is a mark and it is not 0; the other number where there is no mark
 abbrev pub marked : Option ℕ → Option ℕ → Option ℕ
@@ -25,3 +27,12 @@ in_class C table number = number_in table.cbits number
 
 abbrev pub number_at : WireTable → Wire → Option ℕ
 number_at table wire = in_class wire.class table wire.number
+
+-- the number of a wire, where there is one
+abbrev pub on_wire : (Wire → Option ℕ) → Option Wire → Option ℕ
+on_wire f None = None
+on_wire f (Some w) = f w
+
+-- the number of each operand of the gate
+abbrev pub numbers_by : (Wire → Option ℕ) → Gate → OperandNumbers
+numbers_by f gate = record { a = f gate.a; b = on_wire f gate.b; c = on_wire f gate.c }

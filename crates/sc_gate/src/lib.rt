@@ -16,4 +16,4 @@ pub use gate::{
 pub use line::{push_wire, write_gate};
 pub use slow::slow_critical;
 pub use times::Times;
-pub use wire_table::WireTable;
+pub use wire_table::{OperandNumbers, WireTable};

@@ -3,7 +3,7 @@ ghost use Rattle.std.specs.Prelude.{◌≡◌, ◌<◌, ◌≤◌, if◌then◌e
 ghost use Rattle.sc_gate.specs.declared.gate.Wire.{Wire as WireValue};
 ghost use Rattle.sc_gate.specs.Gates.{operands};
 ghost use Rattle.sc_gate.specs.Wires.{same_wire, member};
-ghost use Rattle.sc_gate.specs.WireTables.{number_in, number_at};
+ghost use Rattle.sc_gate.specs.WireTables.{number_in, number_at, on_wire, numbers_by};
 
 use crate::{Gate, Wire};
 use sc_base::{Class, Memory};
@@ -65,6 +65,14 @@ impl ClassTable {
     }
 }
 
+/// For each operand of a gate a number, where it has one.
+#[derive(Clone, Copy)]
+pub struct OperandNumbers {
+    pub a: Option<u32>,
+    pub b: Option<u32>,
+    pub c: Option<u32>,
+}
+
 /// A number for each of some wires. What it takes to ask, give or take one away grows with the logarithm of the count of wires
 /// at most, whatever their numbers are.
 #[derive(Drop)]
@@ -113,6 +121,27 @@ impl WireTable {
         match wire.class {
             Class::Q => self.qubits.get(wire.number),
             Class::C => self.cbits.get(wire.number),
+        }
+    }
+
+    /// The number of the wire, where there is one and it has a number.
+    fn on(&self, wire: Option<Wire>) -> Option<u32>
+        ensures { result ≡ on_wire (number_at self.now) wire }
+    {
+        match wire {
+            Some(wire) => self.get(wire),
+            None => None,
+        }
+    }
+
+    /// The number of each operand of the gate; None where it has none.
+    pub fn operand_numbers(&self, gate: &Gate) -> OperandNumbers
+        ensures { result ≡ numbers_by (number_at self.now) gate.now }
+    {
+        OperandNumbers {
+            a: self.get(gate.a),
+            b: self.on(gate.b),
+            c: self.on(gate.c),
         }
     }
 

@@ -11,9 +11,10 @@ use Rattle.sc_gate.specs.declared.gate.Gate.{Gate}
 use Rattle.sc_gate.specs.Gates.{operands}
 use Rattle.sc_gate.specs.Wires.{member}
 use Rattle.sc_gate.proofs.WireLemmas.{member_here, member_later, member_cases}
-use Rattle.sc_sched.specs.declared.neighbours.Neighbours.{Neighbours}
+use Rattle.sc_gate.specs.declared.wire_table.OperandNumbers.{OperandNumbers}
 use Rattle.sc_sched.specs.declared.neighbours.Marks.{Marks}
-use Rattle.sc_sched.specs.Neighbours.{on_wire, numbers_by, none_or, each, is_number, holds, unmarked, neighbours_at, AreNext}
+use Rattle.sc_gate.specs.WireTables.{on_wire, numbers_by}
+use Rattle.sc_sched.specs.Neighbours.{none_or, each, is_number, holds, unmarked, neighbours_at, AreNext}
 use Rattle.sc_sched.proofs.Count.{and_left, and_right, both, either, or_left, or_right}
 use Rattle.sc_gate.specs.LastGates.{has_wire, last_on, has_at, IsLastOn}
 use Rattle.sc_gate.proofs.LastOn.{last_is}
@@ -152,10 +153,10 @@ holds_from f g z h = elim (either (is_number (f g.a) z) _ h) [
 ]
 
 -- the numbers are below what those of the wires are below
-pub held_below : (f : Wire → Option ℕ) (a : Wire) (b c : Option Wire) (n : Neighbours) (m : ℕ) → n ≡ (record { a = f a; b = on_wire f b; c = on_wire f c }) →
+pub held_below : (f : Wire → Option ℕ) (a : Wire) (b c : Option Wire) (n : OperandNumbers) (m : ℕ) → n ≡ (record { a = f a; b = on_wire f b; c = on_wire f c }) →
     ((w : Wire) (z : ℕ) → f w ≡ Some z → z < m) → (z : ℕ) → holds n z ≡ true → z < m
 held_below f a b c n m e h z k =
-    let (w, i) = holds_from f (record { kind = X; a = a; b = b; c = c }) z (sym (ap (λ (near : Neighbours). holds near z) e) ∙ k) in
+    let (w, i) = holds_from f (record { kind = X; a = a; b = b; c = c }) z (sym (ap (λ (near : OperandNumbers). holds near z) e) ∙ k) in
     h w z i
 
 pub has_here : (gates : List Gate) (x : ℕ) (gate : Gate) (w : Wire) → slice_get gates x ≡ Some gate → has_at gates x w ≡ member w (operands gate)
@@ -221,8 +222,8 @@ next_more gates x g first next n e b s f h =
       ];
     }
   where
-    held : {a b : Neighbours} (z : ℕ) → a ≡ b → holds a z ≡ holds b z
-    held z e = ap (λ (near : Neighbours). holds near z) e
+    held : {a b : OperandNumbers} (z : ℕ) → a ≡ b → holds a z ≡ holds b z
+    held z e = ap (λ (near : OperandNumbers). holds near z) e
 
 pub next_done : (gates : List Gate) (x : ℕ) (next : List Marks) → x ≤ 0 → length next ≡ length gates → IsNext gates x next → AreNext gates next
 next_done gates x next l many h = record {

@@ -7,7 +7,7 @@ use Rattle.std.proofs.lemmas.List.Elements.{All-weaker}
 use Rattle.std.proofs.lemmas.Bool.{false≢true, cases_Bool, cases_lt, eqb-true, eq-eqb}
 use Rattle.std.proofs.lemmas.List.Folds.{list_any-append}
 use Rattle.sc_gate.specs.declared.gate.Gate.{Gate}
-use Rattle.sc_sched.specs.declared.neighbours.Neighbours.{Neighbours}
+use Rattle.sc_gate.specs.declared.wire_table.OperandNumbers.{OperandNumbers}
 use Rattle.sc_sched.specs.declared.neighbours.Marks.{Marks}
 use Rattle.sc_sched.specs.Gates.{shares}
 use Rattle.sc_sched.specs.Step.{count_below, Shop, IsShop, IsStep, fits, beside}
@@ -17,7 +17,8 @@ use Rattle.sc_sched.specs.PrioritySchedules.{NoneIsWider, shop_of_gates}
 use Rattle.sc_sched.specs.Layout.{Layout}
 use Rattle.sc_sched.specs.Laid.{IsLaid}
 use Rattle.sc_sched.specs.Rounds.{shop_of, stands}
-use Rattle.sc_sched.specs.Neighbours.{numbers_by, each, holds, neighbours_at, AreLast, AreNext}
+use Rattle.sc_gate.specs.WireTables.{numbers_by}
+use Rattle.sc_sched.specs.Neighbours.{each, holds, neighbours_at, AreLast, AreNext}
 use Rattle.sc_sched.proofs.Count.{and_left, and_right, both, either, or_left, or_right, same_truth, count_below_lt}
 use Rattle.sc_sched.proofs.Step.{tried_same}
 use Rattle.sc_sched.proofs.SameSchedules.{cut_same, all_same, filter_push, not_true}
@@ -164,7 +165,7 @@ module _ (gates : List Gate) where
       (not (mark x) && each mark (neighbours_at last x)) ≡ free_after steps x
   ready_marked steps mark last x b a same closed =
       let (g, e) = gate_there x b in
-      ap (λ (near : Neighbours). not (mark x) && each mark near) (a.is x g e) ∙ rw (same x b) (ap (λ (v : Bool). not (placed steps x) && v)
+      ap (λ (near : OperandNumbers). not (mark x) && each mark near) (a.is x g e) ∙ rw (same x b) (ap (λ (v : Bool). not (placed steps x) && v)
       (each_same mark (placed steps) x g b same ∙ sym (last_tells (placed steps) x g e (λ y z l m s t. closed y z l (omega (arith, m, b)) s t))))
 
   any_stands : (p : ℕ → Bool) (xs : List ℕ) (q : ℕ) → stands xs q ≡ true → p q ≡ true → list_any p xs ≡ true
@@ -181,8 +182,8 @@ module _ (gates : List Gate) where
       let (g, here) = gate_there x b in
       let last_x : neighbours_at last x ≡ numbers_by (λ w. last_on gates w x) g = a.is x g here in
       let ready' : Bool = not (now x) && each now (numbers_by (λ w. last_on gates w x) g) in
-      let e' : waits ≡ ((not (old x) && each old (numbers_by (λ w. last_on gates w x) g)) && not (stands step x)) = e ∙ ap (λ (near : Neighbours). (not (old x) && each old near) && not (stands step x)) last_x in
-      let f' : waits' ≡ (waits || (list_any (λ p. holds (neighbours_at next p) x) step && ready')) = f ∙ ap (λ (near : Neighbours). waits || (list_any (λ p. holds (neighbours_at next p) x) step && (not (now x) && each now near))) last_x in
+      let e' : waits ≡ ((not (old x) && each old (numbers_by (λ w. last_on gates w x) g)) && not (stands step x)) = e ∙ ap (λ (near : OperandNumbers). (not (old x) && each old near) && not (stands step x)) last_x in
+      let f' : waits' ≡ (waits || (list_any (λ p. holds (neighbours_at next p) x) step && ready')) = f ∙ ap (λ (near : OperandNumbers). waits || (list_any (λ p. holds (neighbours_at next p) x) step && (not (now x) && each now near))) last_x in
       let whole : waits' ≡ ready' = f' ∙ same_truth _ _
       (λ t. elim (either waits _ t) [
         | inl w ↦ (let w' : ((not (old x) && each old (numbers_by (λ w. last_on gates w x) g)) && not (stands step x)) ≡ true = sym e' ∙ w in
@@ -201,7 +202,7 @@ module _ (gates : List Gate) where
             let c : stands step v.number ≡ true = right_of (old v.number) (stands step v.number) v.fails (sym (marks v.number (omega (arith, r.below, b))) ∙ m) in
             any_stands (λ p. holds (neighbours_at next p) x) step v.number c (n.found v.number x v.wire (has_here gates x g v.wire here ∙ v.operand) v.is)) t)
       ])) in
-      whole ∙ sym (ap (λ (near : Neighbours). not (now x) && each now near) last_x)
+      whole ∙ sym (ap (λ (near : OperandNumbers). not (now x) && each now near) last_x)
     where
       not_either : (a b : Bool) → not a ≡ true → not b ≡ true → not (a || b) ≡ true
       not_either true b h k = h

@@ -3,23 +3,16 @@ use Rattle.std.specs.Prelude.{◌≡◌, ℕ, zero, suc, ◌<◌, ◌==◌, ◌&
 use Rattle.sc_gate.specs.declared.gate.Wire.{Wire}
 use Rattle.sc_gate.specs.declared.gate.Gate.{Gate}
 use Rattle.sc_gate.specs.LastGates.{has_wire, last_on}
-use Rattle.sc_sched.specs.declared.neighbours.Neighbours.{Neighbours}
+use Rattle.sc_gate.specs.declared.wire_table.OperandNumbers.{OperandNumbers}
+use Rattle.sc_gate.specs.WireTables.{numbers_by}
 use Rattle.sc_sched.specs.declared.neighbours.Marks.{Marks}
-
-abbrev pub on_wire : (Wire → Option ℕ) → Option Wire → Option ℕ
-on_wire f None = None
-on_wire f (Some w) = f w
-
--- the number of each operand of the gate
-abbrev pub numbers_by : (Wire → Option ℕ) → Gate → Neighbours
-numbers_by f gate = record { a = f gate.a; b = on_wire f gate.b; c = on_wire f gate.c }
 
 abbrev pub none_or : (ℕ → Bool) → Option ℕ → Bool
 none_or p None = true
 none_or p (Some x) = p x
 
 -- each number passes
-abbrev pub each : (ℕ → Bool) → Neighbours → Bool
+abbrev pub each : (ℕ → Bool) → OperandNumbers → Bool
 each p n = none_or p n.a && (none_or p n.b && none_or p n.c)
 
 abbrev pub is_number : Option ℕ → ℕ → Bool
@@ -27,7 +20,7 @@ is_number None x = false
 is_number (Some y) x = y == x
 
 -- it is one of the numbers
-abbrev pub holds : Neighbours → ℕ → Bool
+abbrev pub holds : OperandNumbers → ℕ → Bool
 holds n x = is_number n.a x || (is_number n.b x || is_number n.c x)
 
 -- the position one below a mark; 0 marks none
@@ -35,10 +28,10 @@ abbrev pub position_of : ℕ → Option ℕ
 position_of zero = None
 position_of (suc x) = Some x
 
-abbrev pub unmarked : Marks → Neighbours
+abbrev pub unmarked : Marks → OperandNumbers
 unmarked m = record { a = position_of m.a; b = position_of m.b; c = position_of m.c }
 
-abbrev pub neighbours_at : List Marks → ℕ → Neighbours
+abbrev pub neighbours_at : List Marks → ℕ → OperandNumbers
 neighbours_at all x = unmarked (slice_index_or all x (record { a = 0; b = 0; c = 0 }))
 
 -- for each gate the last gates before it on its wires

@@ -7,9 +7,9 @@ ghost use Rattle.sc_sched.specs.Rounds.{stands};
 ghost use Rattle.sc_sched.specs.Waiting.{is_placed, is_ready};
 
 use crate::board::Board;
-use crate::neighbours::{Marks, Neighbours, last_gates, next_gates};
+use crate::neighbours::{Marks, last_gates, next_gates};
 use sc_base::Memory;
-use sc_gate::Gate;
+use sc_gate::{Gate, OperandNumbers};
 use std::alloc::Global;
 
 #[derive(Drop)]
@@ -48,7 +48,7 @@ impl Waiting {
         requires last { x < length self.now.last.items }
         ensures { result ≡ is_ready self.now x }
     {
-        let Neighbours { a, b, c } = self.last[x as usize].unpack();
+        let OperandNumbers { a, b, c } = self.last[x as usize].unpack();
         !self.placed[x as usize] && self.is_placed(a) && self.is_placed(b) && self.is_placed(c)
     }
 
@@ -79,7 +79,7 @@ impl Waiting {
         }
     }
 
-    fn add_each(&self, board: &mut Board, next: Neighbours)
+    fn add_each(&self, board: &mut Board, next: OperandNumbers)
         requires placed { length self.now.placed.items ≡ length board.old.kind.items }
         requires last { length self.now.last.items ≡ length board.old.kind.items }
         requires inside { (x : ℕ) → holds next x ≡ true → x < length board.old.kind.items }

@@ -1,4 +1,4 @@
-use Rattle.std.proofs.Common.{◌≡◌, ◌<◌, ◌≤◌, ◌^◌, pos, ◌∙◌, sym, ap, FitsSigned, w64, rules, arith}
+use Rattle.std.proofs.Common.{◌≡◌, ◌≤◌, ◌^◌, pos, ◌∙◌, sym, ap, FitsSigned, w64, rules, arith}
 use Rattle.std.proofs.lemmas.Int.{to_z-of_z}
 use Rattle.sc_base.proofs.FixedLemmas.{fixed_positive}
 use Rattle.sc_base.proofs.reader.only_positive.Goals as goal

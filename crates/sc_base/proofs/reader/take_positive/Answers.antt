@@ -1,4 +1,4 @@
-use Rattle.std.proofs.Common.{◌≡◌, suc, ◌<◌, ◌≤◌, ◌^◌, ◌∙◌, sym, FitsSigned, w64, rules, arith}
+use Rattle.std.proofs.Common.{◌≡◌, ◌≤◌, ◌^◌, ◌∙◌, sym, FitsSigned, w64, rules, arith}
 use Rattle.std.proofs.lemmas.Int.{to_z-of_z}
 use Rattle.sc_base.proofs.NumeralLemmas.{int_positive, positive_front, number_unique}
 use Rattle.sc_base.proofs.reader.take_positive.Goals as goal

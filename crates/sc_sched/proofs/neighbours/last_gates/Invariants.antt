@@ -3,8 +3,8 @@ use Rattle.std.specs.Prelude.{slice_get}
 use Rattle.sc_gate.specs.declared.gate.Wire.{Wire}
 use Rattle.sc_gate.specs.declared.gate.Gate.{Gate}
 use Rattle.sc_gate.specs.LastGates.{last_on}
-use Rattle.sc_gate.specs.WireTables.{number_at}
-use Rattle.sc_sched.specs.Neighbours.{numbers_by, neighbours_at}
+use Rattle.sc_gate.specs.WireTables.{number_at, numbers_by}
+use Rattle.sc_sched.specs.Neighbours.{neighbours_at}
 use Rattle.sc_sched.proofs.neighbours.last_gates.Given as goal
 
 abbrev pub invariant-loop-x : goal.invariant-loop-x

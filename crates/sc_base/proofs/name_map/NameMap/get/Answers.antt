@@ -1,5 +1,4 @@
-use Rattle.std.proofs.Common.{rules, ◌≡◌, ◌<◌, Some, None, List, ℕ, length, sym, ap, ◌∙◌, get_or}
-use Rattle.sc_base.specs.NameMaps.{place_under, value_under}
+use Rattle.std.proofs.Common.{rules, Some, sym, ap, ◌∙◌, get_or}
 use Rattle.sc_base.proofs.name_map.NameMap.get.Goals as goal
 use Rattle.sc_base.proofs.NameMapLemmas.{place_under-has, place_under-within, place_under-lacks}
 

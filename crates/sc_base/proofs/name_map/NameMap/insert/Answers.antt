@@ -1,4 +1,4 @@
-use Rattle.std.proofs.Common.{◌≡◌, sym, ap, ◌∙◌, get_or, set}
+use Rattle.std.proofs.Common.{sym, ap, ◌∙◌, get_or, set}
 use Rattle.sc_base.proofs.name_map.NameMap.insert.Goals as goal
 use Rattle.sc_base.proofs.NameMapLemmas.{place_under-has, place_under-within, place_under-lacks, place_under-write}
 

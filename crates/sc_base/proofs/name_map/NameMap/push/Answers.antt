@@ -1,4 +1,4 @@
-use Rattle.std.proofs.Common.{◌≡◌, ap, ◌∙◌, sym}
+use Rattle.std.proofs.Common.{ap, ◌∙◌}
 use Rattle.sc_base.specs.NameMaps.{place_under}
 use Rattle.sc_base.proofs.name_map.NameMap.push.Goals as goal
 use Rattle.sc_base.proofs.NameMapLemmas.{ArePlaces-push, ArePlaces-kept}

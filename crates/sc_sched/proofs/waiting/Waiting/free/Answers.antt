@@ -6,7 +6,7 @@ use Rattle.sc_sched.specs.Layout.{Layout}
 use Rattle.sc_sched.specs.Board.{waits}
 use Rattle.sc_sched.specs.Neighbours.{holds, unmarked, neighbours_at}
 use Rattle.sc_sched.specs.Waiting.{is_ready}
-use Rattle.sc_sched.specs.declared.neighbours.Neighbours.{Neighbours}
+use Rattle.sc_gate.specs.declared.wire_table.OperandNumbers.{OperandNumbers}
 use Rattle.sc_sched.proofs.Open.{stands_at}
 use Rattle.sc_sched.proofs.Freeing.{adds_more}
 use Rattle.sc_sched.proofs.waiting.Waiting.free.Goals as goal
@@ -31,7 +31,7 @@ loop-x-preserved c =
     record {
       layout = c.add_each.ensures.layout ∙ c.loop-x.invariant.layout;
       waits = λ z l. adds_more (λ x. holds (neighbours_at c.args.self.now.next.items x) z) c.args.step.now c.loop-x.x-index (waits c.args.board.now z) (waits c.loop-x.board z) (waits c.add_each.new.board z) (is_ready c.args.self.now z) c.loop-x-test.true
-          (c.loop-x.invariant.waits z l) (c.add_each.ensures.waits z (rw e l) ∙ ap (λ (m : Neighbours). waits c.loop-x.board z || (holds m z && is_ready c.args.self.now z)) n);
+          (c.loop-x.invariant.waits z l) (c.add_each.ensures.waits z (rw e l) ∙ ap (λ (m : OperandNumbers). waits c.loop-x.board z || (holds m z && is_ready c.args.self.now z)) n);
     }
 
 pub returns-clause-waits : goal.returns-clause-waits
