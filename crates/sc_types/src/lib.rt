@@ -22,3 +22,4 @@ mod wires;
 pub use checked::Checked;
 pub use fault::TypeFault;
 pub use source::check;
+pub use want::Want;

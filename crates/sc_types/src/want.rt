@@ -6,7 +6,7 @@ use sc_base::Class;
 use sc_syntax::NameKind;
 
 #[derive(Clone, Copy, Debug, PartialEq, Eq)]
-pub(crate) enum Want {
+pub enum Want {
     OneWire(Class),
     ManyWires(Class),
     /// A qubit array or one qubit, for a word of a classical function.

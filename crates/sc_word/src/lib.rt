@@ -15,5 +15,6 @@ mod words;
 
 pub use function::typed;
 pub use laws::{one_typing, values_fit, widths_fit};
+pub use operand::Form;
 pub use tree::{TypedExpr, TypedLink, TypedNode, WordFault};
 pub use typed_fn::TypedFn;

@@ -14,7 +14,7 @@ pub(crate) enum Operand {
 
 /// Whether an operand is a bare literal, and which, or a word, and of which width.
 #[derive(Clone, Copy, Debug, PartialEq, Eq)]
-pub(crate) enum Form {
+pub enum Form {
     Bare(u64),
     Wide(u32),
 }
