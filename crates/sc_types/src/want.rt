@@ -5,9 +5,12 @@ ghost use Rattle.sc_types.specs.Wires.{same_class as same, suits as suited, suit
 use sc_base::Class;
 use sc_syntax::NameKind;
 
+/// What the callee of a call wants in the place of an argument.
 #[derive(Clone, Copy, Debug, PartialEq, Eq)]
 pub enum Want {
+    /// One wire of the class: a name of one, or an element of an array.
     OneWire(Class),
+    /// A whole array of wires of the class.
     ManyWires(Class),
     /// A qubit array or one qubit, for a word of a classical function.
     Word,
