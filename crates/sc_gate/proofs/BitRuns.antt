@@ -10,7 +10,7 @@ use Rattle.sc_gate.specs.declared.gate.Kind.{Kind}
 use Rattle.sc_gate.specs.declared.gate.Kind.TheVariants as kind
 use Rattle.sc_gate.specs.declared.gate.Gate.{Gate}
 use Rattle.sc_gate.specs.BitRuns.{target_by, NoneChanges, UseOnly, KeepsApart, Matches}
-use Rattle.sc_gate.specs.Gates.{name_of, class_of, operands, SuitsName, AreWellFormed}
+use Rattle.sc_gate.specs.Gates.{name_of, class_of, SuitsName, AreWellFormed}
 use Rattle.sc_gate.specs.Renaming.{rename_gate, KeepsClassesOn, IsOneToOneOn}
 use Rattle.sc_gate.specs.Runs.{xor, bit_at, xor_at, bit_step_by, bit_step, bit_run, number_or_zero}
 use Rattle.sc_gate.specs.Wires.{member}

@@ -1,4 +1,4 @@
-use Rattle.std.proofs.Common.{◌≡◌, ℕ, Bool, true, false, Option, Some, if◌then◌else◌, ◌||◌, refl, sym, ap, ◌∙◌}
+use Rattle.std.proofs.Common.{◌≡◌, ℕ, Bool, true, false, Option, Some, if◌then◌else◌, ◌||◌, refl}
 use Rattle.sc_gate.specs.Wires.{same_wire}
 use Rattle.sc_gate.specs.WireTables.{number_at}
 use Rattle.sc_gate.proofs.wire_table.WireTable.put_gate.Goals as goal
