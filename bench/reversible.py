@@ -1,15 +1,13 @@
 #!/usr/bin/env python3
-"""Times the body of a 32 by 32 product and its bit run, and runs all functions of two operators over words of three bits.
+"""Times the body of a 32 by 32 product (10,760 gates) and its bit run, in microseconds of processor time each.
 
-usage: bench/reversible.py [CASE..]
-Builds a test of each case in a folder that it drops again, on copies of the crates and of the functions of `crates/tests_rev`.
-`rt try` runs it, compiled with checks of bounds and overflow. The cases are the names in CASES, by default all of them.
+usage: bench/reversible.py [--try]
+Builds a program in a folder that it drops again, on copies of the crates: proved, or with `--try` unproved, with checks of bounds
+and overflow. Without `--try` all the crates below are proved first, which takes minutes.
 """
-import shutil, subprocess, sys, tempfile
+import os, subprocess, sys, tempfile
 from pathlib import Path
-from programs import lay_out
-
-top = Path(__file__).resolve().parent.parent
+from programs import WORDS_RT, lay_out
 
 CRATES = {
     'sc_base': 'itoa',
@@ -20,83 +18,102 @@ CRATES = {
     'sc_types': 'sc_base sc_syntax sc_word',
     'sc_deck': 'sc_base sc_gate indexmap smallvec',
     'sc_rev': 'sc_base sc_gate sc_syntax sc_word sc_deck',
-    'sizes': 'sc_base sc_gate sc_deck sc_syntax sc_parse sc_types sc_word sc_rev',
+    'product': 'sc_base sc_deck sc_syntax sc_parse sc_types sc_word sc_rev',
 }
 
-LIB_RT = '''//! Times of the gates of classical functions.
+MAIN_RT = '''//! The gates of a product of two words of 32 bits. The words are how often its body is built, and how often its gates are run.
 #![tactic(auto)]
 
-#[cfg(test)]
-mod functions;
-#[cfg(test)]
-mod sizes;
-'''
-
-PRODUCT_RT = '''//! A product of two words of 32 bits.
-use crate::functions::checked;
+use sc_deck::Body;
+use sc_parse::parse;
 use sc_rev::{reversible, run_bits};
-use std::test::Fail;
-use std::time::Instant;
+use sc_syntax::lex;
+use sc_types::{Checked, check};
+use sc_word::TypedFn;
+use std::alloc::Global;
+use std::env;
+use std::process::ExitCode;
 
-#[test]
-fn product(rt: HostRuntime) -> Result<(), Fail> {
-    let alloc = rt.alloc();
-    let source = checked(&rt, alloc, "classical m(a[32], b[32]) : 32 { return a * b; }")?;
-    let word = source.word(0).ok_or("no function")?;
-    let begun = Instant::now(&rt)?;
-    for _ in 0..99 {
-        let _ = reversible(alloc, word)?;
+const SOURCE: &str = "classical m(a[32], b[32]) : 32 { return a * b; } int main() { }";
+
+fn checked(alloc: Global, source: &[u8]) -> Option<Checked> {
+    if source.len() > 16_777_216 {
+        return None;
     }
-    let body = reversible(alloc, word)?;
-    let built = begun.elapsed(&rt)?.as_micros() / 100;
-    let mut bits = Vec::new(alloc);
-    for _ in 0..body.wires() {
-        bits.push(true)?;
+    let tokens = lex(alloc, source).ok()?;
+    let tree = parse(alloc, source, &tokens).ok()?;
+    check(alloc, tree).ok()
+}
+
+fn body_of(alloc: Global, function: &TypedFn) -> Option<Body> {
+    if function.wires() > 65536 {
+        return None;
     }
-    let again = Instant::now(&rt)?;
-    for _ in 0..100 {
+    reversible(alloc, function).ok()
+}
+
+/// Builds the body so many times more, and runs its gates so many times. Answers the number of its items.
+fn work(alloc: Global, function: &TypedFn, builds: u32, runs: u32) -> Option<usize> {
+    for _ in 0..builds {
+        let _ = body_of(alloc, function)?;
+    }
+    let body = body_of(alloc, function)?;
+    let mut bits = vec![in alloc; true; body.wires() as usize].ok()?;
+    for _ in 0..runs {
         run_bits(&body, bits.as_mut_slice());
     }
-    let ran = again.elapsed(&rt)?.as_micros() / 100;
-    println!(rt; "SIZES {} items: built in {} us, run in {} us", body.items().len(), built, ran)?;
-    Ok(())
+    Some(body.items().len())
+}
+
+''' + WORDS_RT + '''
+/// A word as a number; 0 where it is none.
+fn number(words: &[String], i: usize) -> u32 {
+    word(words, i).parse::<u32>().unwrap_or(0)
+}
+
+fn items(rt: &HostRuntime) -> Option<usize> {
+    let words = read_args(rt)?;
+    let source = checked(rt.alloc(), SOURCE.as_bytes())?;
+    let function = source.word(0)?;
+    work(rt.alloc(), function, number(&words, 1), number(&words, 2))
+}
+
+fn main(rt: HostRuntime) -> ExitCode {
+    match items(&rt) {
+        Some(10761) => ExitCode::from(0),
+        Some(_) => ExitCode::from(2),
+        None => ExitCode::from(1),
+    }
 }
 '''
 
-PAIRS_RT = '''//! All functions of two operators over words of three bits.
-use crate::operators::{Operands, check_pairs};
-use std::test::Fail;
 
-#[test]
-fn pairs(rt: HostRuntime) -> Result<(), Fail> {
-    check_pairs(&rt, rt.alloc(), 3, Operands::ONE_OR_TWO)?;
-    println!(rt; "SIZES all alike")?;
-    Ok(())
-}
-'''
-
-CASES = {
-    'product': PRODUCT_RT,
-    'pairs_of_two_words': PAIRS_RT.replace('ONE_OR_TWO', 'Two'),
-    'pairs_of_one_word': PAIRS_RT.replace('ONE_OR_TWO', 'One'),
-}
+def busy(words):
+    '''The seconds of processor time of a run.'''
+    child = subprocess.Popen([str(word) for word in words], stdout=subprocess.DEVNULL, stderr=subprocess.DEVNULL)
+    _, status, usage = os.wait4(child.pid, 0)
+    if os.waitstatus_to_exitcode(status) != 0:
+        sys.exit(f'{words}: status {os.waitstatus_to_exitcode(status)}')
+    return usage.ru_utime + usage.ru_stime
 
 
 def main():
-    for name in sys.argv[1:] or CASES:
-        with tempfile.TemporaryDirectory() as folder:
-            folder = Path(folder)
-            crates = lay_out(folder, CRATES, 'sizes')
-            source = crates / 'sizes/src'
-            source.mkdir(parents=True)
-            modules = ('functions', 'operators') if name.startswith('pairs') else ('functions',)
-            (source / 'lib.rt').write_text(LIB_RT + ('\n#[cfg(test)]\nmod operators;\n' if 'operators' in modules else ''))
-            for module in modules:
-                shutil.copy(top / f'crates/tests_rev/src/{module}.rt', source)
-            (source / 'sizes.rt').write_text(CASES[name])
-            tried = subprocess.run(['rt', 'try', '--test', '--seconds', '600'], cwd=crates / 'sizes', capture_output=True, text=True)
-            said = (tried.stdout + tried.stderr).splitlines()
-            print(f'{name}: ' + (' '.join(line for line in said if 'SIZES' in line or 'error' in line) or ' '.join(said[-5:])), flush=True)
+    is_tried = '--try' in sys.argv[1:]
+    with tempfile.TemporaryDirectory() as folder:
+        folder = Path(folder)
+        crates = lay_out(folder, CRATES, 'product')
+        (crates / 'product/src').mkdir(parents=True)
+        (crates / 'product/src/main.rt').write_text(MAIN_RT)
+        if is_tried:
+            words = ['rt', 'try', '--']
+        else:
+            built = subprocess.run(['rt', 'run'], cwd=crates / 'product', capture_output=True, text=True)
+            words = [crates / 'product/out/product']
+            if not words[0].exists():
+                sys.exit(built.stdout + built.stderr)
+        os.chdir(crates / 'product')
+        least = busy([*words, 0, 0])
+        print(f'built in {(busy([*words, 200, 0]) - least) / 200 * 1e6:.0f} us, run in {(busy([*words, 0, 1000]) - least) / 1000 * 1e6:.0f} us')
 
 
 main()

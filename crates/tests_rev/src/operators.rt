@@ -278,7 +278,7 @@ fn one_operator(rt: HostRuntime) -> Result<(), Fail> {
 
 #[test]
 fn two_operators_on_two_words(rt: HostRuntime) -> Result<(), Fail> {
-    for width in 1..3 {
+    for width in 1..4 {
         check_pairs(&rt, rt.alloc(), width, Operands::Two)?;
     }
     Ok(())
@@ -286,7 +286,7 @@ fn two_operators_on_two_words(rt: HostRuntime) -> Result<(), Fail> {
 
 #[test]
 fn two_operators_on_one_word_twice(rt: HostRuntime) -> Result<(), Fail> {
-    for width in 1..3 {
+    for width in 1..4 {
         check_pairs(&rt, rt.alloc(), width, Operands::One)?;
     }
     Ok(())
