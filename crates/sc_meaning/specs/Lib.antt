@@ -1,0 +1,17 @@
+pub mod Answers
+pub mod Arguments
+pub mod ClassicalCalls
+pub mod Definitions
+pub mod Depth
+pub mod Enterings
+pub mod Examples
+pub mod Faults
+pub mod Instances
+pub mod Kept
+pub mod Local
+pub mod Meaning
+pub mod Outcomes
+pub mod Programs
+pub mod Run
+pub mod States
+pub mod Values
