@@ -1,6 +1,6 @@
 -- Entries in the order of their starts.
 use Rattle.std.proofs.Common.{◌≡◌, ℕ, zero, suc, ◌+◌, ◌<◌, ◌≤◌, List, [], ◌∷◌, ◌++◌, drop, length, get_or, Option, Some, None, ◌⊎◌, inl, inr, refl, sym, ap, subst, arith}
-use Rattle.std.specs.Prelude.{Result, Ok, Err, OnOk, OnErr, Bool, true, false, IsTrue, ◌↔◌}
+use Rattle.std.specs.Prelude.{Result, Ok, Err, OnOk, OnErr, Bool, false, IsTrue, ◌↔◌}
 use Rattle.std.specs.List.{AllByRecursion}
 use Rattle.sc_path.specs.declared.row.Entry.{Entry}
 use Rattle.sc_path.specs.Rows.{place, AreBefore, AreAfter, Ascends, HaveWeights, StartsIn, AreApart}

@@ -133,8 +133,7 @@ fn chain_of(gates: &[Placed], set: u32) -> Option<(Placed, Placed, u128)> {
             chain = match chain {
                 None => Some((*gate, *gate, gate.weight)),
                 Some((first, last, weight))
-                    if is_on(&last, Some(gate.a)) || is_on(&last, Some(gate.b)) =>
-                {
+                    if is_on(&last, Some(gate.a)) || is_on(&last, Some(gate.b)) => {
                     Some((first, *gate, weight.saturating_add(gate.weight)))
                 }
                 Some(_) => return None,

@@ -52,12 +52,12 @@ fn rows_have_an_entry_for_each_start(rt: HostRuntime) -> Result<(), Fail> {
     let paths = paths_of(&rt, rt.alloc(), &[], &bodies)?;
     let table = paths.table(1).ok_or("no table")?;
     let all = [None, Some(1), Some(2)].map(|start| Entry { start, weight: 1 });
-    for (row, entries) in table
-        .rows
-        .as_slice()
-        .iter()
-        .zip([[].as_slice(), all.as_slice(), all.as_slice(), all.as_slice()])
-    {
+    for (row, entries) in table.rows.as_slice().iter().zip([
+        [].as_slice(),
+        all.as_slice(),
+        all.as_slice(),
+        all.as_slice(),
+    ]) {
         assert_eq!(rt; row.as_slice(), entries);
     }
     Ok(())

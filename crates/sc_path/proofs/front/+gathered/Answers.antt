@@ -1,4 +1,4 @@
-use Rattle.std.proofs.Common.{◌≡◌, ℕ, List, Option, length, ap, ◌∙◌, subst, take, drop}
+use Rattle.std.proofs.Common.{◌≡◌, ℕ, List, Option, length, ap, ◌∙◌, subst, drop}
 use Rattle.std.specs.Prelude.{◌/◌}
 use Rattle.sc_path.specs.declared.row.Entry.{Entry}
 use Rattle.sc_path.specs.Rows.{look, both, WhyHeavy}

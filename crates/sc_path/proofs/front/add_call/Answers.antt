@@ -1,4 +1,4 @@
-use Rattle.std.proofs.Common.{◌≡◌, ℕ, ◌+◌, ◌<◌, ◌≤◌, List, length, arith, ap, ◌∙◌, sym, subst}
+use Rattle.std.proofs.Common.{◌≡◌, ℕ, ◌<◌, ◌≤◌, List, length, arith, ap, ◌∙◌, subst}
 use Rattle.std.specs.Prelude.{slice_index, max}
 use Rattle.std.specs.Vec.{with_items}
 use Rattle.sc_gate.specs.Chains.{or_zero}

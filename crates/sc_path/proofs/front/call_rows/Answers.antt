@@ -1,5 +1,4 @@
-use Rattle.std.proofs.Common.{◌≡◌, ℕ, ◌+◌, ◌<◌, List, [], ◌∷◌, ◌++◌, length, get_or, arith, ap, ◌∙◌, rules, length-append}
-use Rattle.std.specs.Prelude.{slice_index}
+use Rattle.std.proofs.Common.{◌≡◌, ℕ, ◌+◌, ◌<◌, List, [], ◌∷◌, ◌++◌, length, arith, ap, ◌∙◌, rules, length-append}
 use Rattle.sc_path.specs.declared.row.Entry.{Entry}
 use Rattle.sc_path.specs.Rows.{look, row_at}
 use Rattle.sc_path.specs.Fronts.{row_after}

@@ -1,4 +1,4 @@
-use Rattle.std.proofs.Common.{◌<◌, List, length, get_or, arith, ap, ◌∙◌}
+use Rattle.std.proofs.Common.{◌<◌, List, length, arith, ap, ◌∙◌}
 use Rattle.sc_gate.specs.Chains.{more}
 use Rattle.sc_path.specs.declared.row.Entry.{Entry}
 use Rattle.sc_path.specs.Rows.{look, shifted}

@@ -1,7 +1,7 @@
 use Rattle.std.proofs.Common.{◌<◌, length, arith, None}
 use Rattle.sc_path.specs.declared.row.Entry.{Entry}
 use Rattle.sc_path.proofs.EndLemmas.{kept_next}
-use Rattle.sc_path.proofs.RowOrder.{before_at, before_rest, none_before}
+use Rattle.sc_path.proofs.RowOrder.{before_at, before_rest}
 use Rattle.sc_path.proofs.start.kept.Goals as goal
 
 abbrev no_entry : Entry

@@ -1,4 +1,4 @@
-use Rattle.std.proofs.Common.{◌≡◌, ◌+◌, ◌<◌, ℕ, Option, length, get_or, arith, refl, sym, ap, ◌∙◌, subst}
+use Rattle.std.proofs.Common.{◌+◌, ◌<◌, ℕ, length, get_or, arith, refl, sym, ap, ◌∙◌, subst}
 use Rattle.sc_path.specs.Rows.{place, AreBefore}
 use Rattle.sc_path.proofs.EndLemmas.{last_next}
 use Rattle.sc_path.proofs.RowOrder.{start_place, before_less}

@@ -1,4 +1,4 @@
-use Rattle.std.proofs.Common.{◌<◌, List, [], ◌∷◌, ◌++◌, sym, subst, ap, ◌∙◌, arith}
+use Rattle.std.proofs.Common.{◌<◌, List, sym, subst, ap, ◌∙◌, arith}
 use Rattle.sc_path.specs.declared.row.Entry.{Entry}
 use Rattle.sc_path.specs.Rows.{look, AreBefore, HaveWeights}
 use Rattle.sc_path.proofs.EndLemmas.{kept_one}
