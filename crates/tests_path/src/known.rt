@@ -120,5 +120,5 @@ pub fn last_counts(
     for body in bodies {
         count(rt, &mut tally, body)?;
     }
-    Ok(tally.at((bodies.len() as u32).wrapping_sub(1)).copied())
+    Ok(tally.counts.as_slice().last().copied())
 }

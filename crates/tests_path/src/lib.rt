@@ -8,6 +8,8 @@ mod chains;
 #[cfg(test)]
 mod known;
 #[cfg(test)]
+mod large;
+#[cfg(test)]
 mod path;
 #[cfg(test)]
 mod programs;

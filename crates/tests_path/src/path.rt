@@ -3,7 +3,7 @@ use crate::bodies::{Step, Steps, bodies_of};
 use crate::known::paths_of;
 use crate::programs::G;
 use sc_gate::{Kind, Times};
-use sc_path::{Entry, Paths, Table, critical};
+use sc_path::{Paths, Table, critical};
 use std::alloc::Global;
 use std::process::Abort;
 use std::test::Fail;
@@ -43,23 +43,6 @@ fn tables_answer_for_their_wires(rt: HostRuntime) -> Result<(), Fail> {
     }
     assert!(rt; paths.table(2).is_none());
     assert_eq!(rt; critical(&Paths::new(rt.alloc(), Times::ones())), 0);
-    Ok(())
-}
-
-#[test]
-fn rows_have_an_entry_for_each_start(rt: HostRuntime) -> Result<(), Fail> {
-    let bodies = bodies_of(&rt, rt.alloc(), &[G, MEASURED])?;
-    let paths = paths_of(&rt, rt.alloc(), &[], &bodies)?;
-    let table = paths.table(1).ok_or("no table")?;
-    let all = [None, Some(1), Some(2)].map(|start| Entry { start, weight: 1 });
-    for (row, entries) in table.rows.as_slice().iter().zip([
-        [].as_slice(),
-        all.as_slice(),
-        all.as_slice(),
-        all.as_slice(),
-    ]) {
-        assert_eq!(rt; row.as_slice(), entries);
-    }
     Ok(())
 }
 

@@ -7,7 +7,7 @@ use sc_path::critical;
 use std::test::Fail;
 
 /// A program, the last of its bodies as main, and its numbers.
-pub struct Program {
+struct Program {
     name: &'static str,
     bodies: &'static [Steps],
     durations: Durations,

@@ -1,6 +1,7 @@
 //! Counts and critical paths of towers, in which each body calls the one before it, and of programs of many bodies.
-use crate::bodies::{Step, Steps, body_of, push_calls, push_fresh, push_gate};
+use crate::bodies::{Step, Steps, body_of, push_fresh, push_gate};
 use crate::known::{Durations, last_counts, paths_of};
+use crate::large::{many, wide};
 use sc_base::{Class, GateName};
 use sc_count::TallyFault;
 use sc_deck::Body;
@@ -162,8 +163,8 @@ fn towers_have_their_numbers(rt: HostRuntime) -> Result<(), Fail> {
     for tower in &TOWERS {
         let bodies = bodies_of(&rt, rt.alloc(), tower)?;
         let counts = match last_counts(&rt, rt.alloc(), tower.durations, &bodies) {
-            Ok(counts) => counts.map(|counts| [counts.qubits, counts.peak, counts.gates]),
-            Err(TallyFault::CountTooLarge) => None,
+            Ok(Some(counts)) => Some([counts.qubits, counts.peak, counts.gates]),
+            Ok(None) | Err(TallyFault::CountTooLarge) => None,
             Err(TallyFault::Memory) => Err("no memory")?,
         };
         let greatest = match paths_of(&rt, rt.alloc(), tower.durations, &bodies) {
@@ -175,34 +176,6 @@ fn towers_have_their_numbers(rt: HostRuntime) -> Result<(), Fail> {
         assert_eq!(rt; greatest, tower.critical, "height {}", tower.height);
     }
     Ok(())
-}
-
-/// H on each of so many parameters, and a main that calls it twice.
-fn wide(rt: &impl Abort, alloc: Global, n: u32) -> Result<[Body; 2], Fail> {
-    let mut wires = Vec::new(alloc);
-    assert!(rt; n <= 65536);
-    let mut body = Body::new(alloc, n, 0);
-    for i in 0..n {
-        push_gate(rt, &mut body, Gate::one(Kind::H, Wire::qubit(i)))?;
-        wires.push(Wire::qubit(i))?;
-    }
-    let mut main = Body::new(alloc, 0, 0);
-    push_fresh(rt, &mut main, Class::Q, n)?;
-    push_calls(rt, &mut main, 0, &wires, 2)?;
-    Ok([body, main])
-}
-
-/// So many bodies with X on a parameter, and a main that calls each of them on its one qubit.
-fn many(rt: &impl Abort, alloc: Global, n: u32) -> Result<Vec<Body>, Fail> {
-    let mut bodies = Vec::new(alloc);
-    let mut main = Body::new(alloc, 0, 0);
-    push_fresh(rt, &mut main, Class::Q, 1)?;
-    for callee in 0..n {
-        bodies.push(body_of(rt, alloc, 1, 0, X.items)?)?;
-        push_calls(rt, &mut main, callee, &[Wire::qubit(0)], 1)?;
-    }
-    bodies.push(main)?;
-    Ok(bodies)
 }
 
 /// The gates of a sum of two numbers of so many bits: two CNOTs and a Toffoli for the lowest bit, a CNOT and a Toffoli more
