@@ -87,16 +87,16 @@ fn nested(rt: &impl Abort, alloc: Global, n: u32) -> Result<Vec<Body>, Fail> {
 }
 
 /// Tells how long the counts and the tables of a program take.
-fn tell(rt: &HostRuntime, bodies: &[Body]) -> Result<(), Fail> {
-    let begun = Instant::now(rt)?;
-    let counts = last_counts(rt, rt.alloc(), &[], bodies)?;
-    let counted = begun.elapsed(rt)?.as_micros();
+fn tell(host: &HostRuntime, rt: &impl Abort, bodies: &[Body]) -> Result<(), Fail> {
+    let begun = Instant::now(host)?;
+    let counts = last_counts(rt, host.alloc(), &[], bodies)?;
+    let counted = begun.elapsed(host)?.as_micros();
     let gates = counts.map(|counts| counts.gates).unwrap_or(0);
-    let again = Instant::now(rt)?;
-    let paths = paths_of(rt, rt.alloc(), &[], bodies)?;
-    let tabled = again.elapsed(rt)?.as_micros();
+    let again = Instant::now(host)?;
+    let paths = paths_of(rt, host.alloc(), &[], bodies)?;
+    let tabled = again.elapsed(host)?.as_micros();
     let (n, path) = (bodies.len(), critical(&paths));
-    println!(rt; "SIZES {counted} {tabled} {n} {gates} {path}")?;
+    println!(host; "SIZES {counted} {tabled} {n} {gates} {path}")?;
     Ok(())
 }
 TESTS'''
@@ -115,7 +115,7 @@ TEST_RT = '''
 #[test]
 fn case_NAME(rt: HostRuntime) -> Result<(), Fail> {
     let bodies = PROGRAM;
-    tell(&rt, bodies.as_slice())
+    tell(&rt, &rt, bodies.as_slice())
 }
 '''
 
