@@ -3,8 +3,9 @@
 
 usage: bench/count_path.py [CASE..]
 Proves and builds a test of each case, in a folder that it drops again, on copies of the crates and of the modules of
-`crates/tests_path` that build bodies. Prints what the test tells of the least of three runs, and the peak memory of its program.
-The cases are the names in CASES, by default all of them. The case `nothing` shows what a program takes.
+`crates/tests_path` that build bodies. Prints, of three runs, how long the counts and the tables took, the processor time of the
+whole program, which builds the bodies too, and its peak memory. The cases are the names in CASES, by default all of them. The
+case `nothing` shows what a program takes.
 """
 import os, shutil, subprocess, sys, tempfile
 from pathlib import Path
@@ -139,14 +140,16 @@ def build(folder, names):
 
 
 def measure(program, name):
-    """What the test of a case tells, the least of three runs, and the peak memory of its program in MB."""
-    told, most = [], 0
+    """Of three runs of a case: what the test tells, where the tables took least, the least seconds of processor time of the
+    whole program, and its peak memory in MB."""
+    told, seconds, most = [], [], 0
     for _ in range(3):
         child = subprocess.Popen([program, f'sizes::case_{name}'], stdout=subprocess.PIPE, text=True)
         told += [list(map(int, line.split()[1:])) for line in child.stdout if 'SIZES' in line]
         _, _, usage = os.wait4(child.pid, 0)
+        seconds.append(usage.ru_utime + usage.ru_stime)
         most = max(most, usage.ru_maxrss * 1024 / 1e6)
-    return min(told, key=lambda numbers: numbers[1]), most
+    return min(told, key=lambda numbers: numbers[1]), min(seconds), most
 
 
 def main():
@@ -154,8 +157,8 @@ def main():
     with tempfile.TemporaryDirectory() as folder:
         program = build(Path(folder), names)
         for name in names:
-            (counts, tables, bodies, gates, path), memory = measure(program, name)
-            print(f'{name}: {bodies} bodies, {gates} gates, critical path {path}; counts {counts / 1e6:.3f} s, tables {tables / 1e6:.3f} s, {memory:.0f} MB')
+            (counts, tables, bodies, gates, path), seconds, memory = measure(program, name)
+            print(f'{name}: {bodies} bodies, {gates} gates, critical path {path}; counts {counts / 1000:.1f} ms, tables {tables / 1000:.1f} ms; {seconds:.2f} s and {memory:.0f} MB in all')
 
 
 main()
