@@ -1,13 +1,11 @@
 -- The rows of a body stand for the places of its wires.
-use Rattle.std.proofs.Common.{◌≡◌, ◌≢◌, ℕ, zero, suc, ◌+◌, ◌-◌, ◌<◌, ◌≤◌, List, [], ◌∷◌, ◌++◌, map, length, replicate, get_or, Bool, true, false, Option, Some, None, ◌⊎◌, inl, inr, refl, sym, ap, ◌∙◌, subst, arith}
-use Rattle.std.specs.Prelude.{nat_eq, nat_lt, slice_index, if◌then◌else◌}
-use Rattle.std.specs.List.{AllByRecursion}
+use Rattle.std.proofs.Common.{◌≡◌, ◌≢◌, ℕ, suc, ◌+◌, ◌-◌, ◌<◌, ◌≤◌, List, [], ◌∷◌, length, replicate, Bool, true, false, Option, Some, None, ◌⊎◌, inl, inr, refl, sym, ap, ◌∙◌, subst, arith}
+use Rattle.std.specs.Prelude.{slice_index, if◌then◌else◌}
 use Rattle.std.proofs.lemmas.Bool.{cases_lt}
 use Rattle.std.proofs.lemmas.List.{get_or_default, get_or_past}
 use Rattle.sc_base.specs.declared.names.Class.{Class}
 use Rattle.sc_base.specs.declared.names.Class.TheVariants.{Q, C}
 use Rattle.sc_gate.specs.declared.gate.Wire.{Wire}
-use Rattle.sc_gate.specs.Chains.{Timed, when}
 use Rattle.sc_gate.specs.Gates.{IsNew, AreDistinct}
 use Rattle.sc_gate.specs.Numbers.{Numbers, number_of, with_more, no_wires, both, IsThere, AreThere}
 use Rattle.sc_gate.specs.Paths.{star}
@@ -17,7 +15,7 @@ use Rattle.sc_deck.specs.declared.item.Item.{Item}
 use Rattle.sc_deck.specs.declared.item.Item.TheVariants as item
 use Rattle.sc_deck.specs.declared.key.Key.{Key}
 use Rattle.sc_deck.specs.Bodies.{after_items}
-use Rattle.sc_deck.specs.Events.{Event, after_events}
+use Rattle.sc_deck.specs.Events.{after_events}
 use Rattle.sc_deck.specs.Items.{after_item}
 use Rattle.sc_deck.specs.Keys.{param_classes, params_of}
 use Rattle.sc_deck.specs.Placing.{shifted, put, Sized}
@@ -32,7 +30,7 @@ use Rattle.sc_path.specs.declared.row.Entry.{Entry}
 use Rattle.sc_path.specs.Rows.{look, row_at, place}
 use Rattle.sc_path.specs.Ends.{begin, start_in}
 use Rattle.sc_path.specs.Tables.{param}
-use Rattle.sc_path.specs.Fronts.{Sites, from_of, Bounded, Stands}
+use Rattle.sc_path.specs.Fronts.{from_of, Bounded, Stands}
 use Rattle.sc_path.specs.Places.{row_in, row_number, start_places, body_sites}
 use Rattle.sc_path.proofs.CallStar.{lt_true, lt_false}
 use Rattle.sc_path.proofs.DeckTurns.{put_own}

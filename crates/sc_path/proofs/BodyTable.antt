@@ -1,15 +1,13 @@
 -- The table of a body from its rows after the last item, and the tables of one body more.
-use Rattle.std.proofs.Common.{◌≡◌, ℕ, zero, suc, ◌+◌, ◌-◌, ◌^◌, ◌<◌, ◌≤◌, List, [], ◌∷◌, ◌++◌, All, map, length, get_or, take, slice_get, Option, Some, None, ◌⊎◌, inl, inr, refl, sym, ap, ◌∙◌, subst, arith, length-append}
+use Rattle.std.proofs.Common.{◌≡◌, ℕ, zero, suc, ◌+◌, ◌-◌, ◌^◌, ◌<◌, ◌≤◌, List, [], ◌∷◌, ◌++◌, All, map, length, take, slice_get, Option, Some, None, ◌⊎◌, inl, inr, refl, sym, ap, ◌∙◌, subst, arith, length-append}
 use Rattle.std.specs.Prelude.{slice_index, unwrap_or}
 use Rattle.std.specs.List.{range_with_len}
-use Rattle.std.specs.Option.{option_map_or}
 use Rattle.std.proofs.lemmas.Bool.{cases_lt}
 use Rattle.std.proofs.lemmas.List.{get_or-append-add}
 use Rattle.std.proofs.lemmas.List.FromFn.{length-range_with_len, get_or-range_with_len}
 use Rattle.sc_base.specs.declared.names.Class.TheVariants.{Q, C}
-use Rattle.sc_gate.specs.declared.gate.Wire.{Wire}
-use Rattle.sc_gate.specs.Chains.{Timed, timed, best, or_zero, critical_of}
-use Rattle.sc_gate.specs.Numbers.{Numbers, number_of, both, no_wires}
+use Rattle.sc_gate.specs.Chains.{Timed, timed, or_zero, critical_of}
+use Rattle.sc_gate.specs.Numbers.{Numbers, both, no_wires}
 use Rattle.sc_gate.specs.Times.{AreTimes}
 use Rattle.sc_deck.specs.declared.item.Item.{Item}
 use Rattle.sc_deck.specs.declared.key.Key.{Key}
@@ -18,16 +16,16 @@ use Rattle.sc_deck.specs.Events.{Event, gates_in}
 use Rattle.sc_deck.specs.Keys.{params_of, param_classes}
 use Rattle.sc_deck.specs.Modules.{Module}
 use Rattle.sc_deck.specs.Renaming.{wire}
-use Rattle.sc_deck.specs.Unfolding.{Unfolding, unfoldings, unfold_on, numbered}
+use Rattle.sc_deck.specs.Unfolding.{Unfolding, unfoldings, numbered}
 use Rattle.sc_deck.proofs.PutLaws.{expansion-is}
 use Rattle.sc_deck.proofs.SequenceLaws.{unfold_on-before}
 use Rattle.sc_path.specs.declared.row.Entry.{Entry}
 use Rattle.sc_path.specs.declared.table.Table.{Table}
 use Rattle.sc_path.specs.Rows.{look, row_at, place}
 use Rattle.sc_path.specs.Ends.{positive, number_at}
-use Rattle.sc_path.specs.Tables.{param, IsTable, IsTableOf, StandsFor, Extends, timed_gates, get_of}
-use Rattle.sc_path.specs.Fronts.{Sites, Bounded, Stands}
-use Rattle.sc_path.specs.Places.{row_number, events_of, gates_before, body_sites}
+use Rattle.sc_path.specs.Tables.{param, IsTable, IsTableOf, StandsFor, timed_gates, get_of}
+use Rattle.sc_path.specs.Fronts.{Bounded, Stands}
+use Rattle.sc_path.specs.Places.{events_of, gates_before, body_sites}
 use Rattle.sc_path.proofs.BodyRows.{site_own, numbers_grow}
 use Rattle.sc_path.proofs.PowerLemmas.{param_low, param_high}
 use Rattle.sc_path.proofs.Steps.{whole_gates}

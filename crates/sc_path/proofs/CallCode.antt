@@ -1,17 +1,17 @@
 -- Steps of the code of a call.
-use Rattle.std.proofs.Common.{◌≡◌, ℕ, zero, suc, ◌+◌, ◌-◌, ◌^◌, ◌<◌, ◌≤◌, List, [], ◌∷◌, ◌++◌, length, get_or, take, drop, set, slice_get, Bool, true, false, Option, Some, None, Result, Ok, Err, ◌⊎◌, inl, inr, refl, sym, ap, ◌∙◌, subst, arith, eqb-true, eq-eqb, length-append}
+use Rattle.std.proofs.Common.{◌≡◌, ℕ, zero, suc, ◌+◌, ◌<◌, ◌≤◌, List, [], ◌∷◌, ◌++◌, length, get_or, take, drop, set, slice_get, Bool, true, false, Option, Some, None, Result, Ok, Err, ◌⊎◌, inl, inr, refl, sym, ap, ◌∙◌, subst, arith, eqb-true, eq-eqb, length-append}
 use Rattle.std.specs.Prelude.{nat_eq, slice_index, IfOk, IfErr, if◌then◌else◌, ◌||◌}
 use Rattle.std.proofs.lemmas.List.{take_more}
 use Rattle.std.proofs.lemmas.Bool.{cases_lt}
-use Rattle.sc_gate.specs.Chains.{more, plus, when}
+use Rattle.sc_gate.specs.Chains.{more, plus}
 use Rattle.sc_gate.proofs.PathCalls.{more_assoc}
 use Rattle.sc_path.specs.declared.row.Entry.{Entry}
 use Rattle.sc_path.specs.declared.fault.PathFault.{PathFault}
 use Rattle.sc_path.specs.declared.fault.PathFault.TheVariants.{CountTooLarge, Memory}
-use Rattle.sc_path.specs.Rows.{look, row_at, both, shifted, Passes, WhyHeavy, place}
+use Rattle.sc_path.specs.Rows.{look, row_at, both, Passes, WhyHeavy, place}
 use Rattle.sc_path.specs.Fronts.{stands_in, look_at, source, called, row_after, put_each, Bounded, WhyCalled, WhyCall}
 use Rattle.sc_path.proofs.Rows.{more_none}
-use Rattle.sc_path.proofs.FrontRows.{in_here, in_later, in_cases, row_set, row_other}
+use Rattle.sc_path.proofs.FrontRows.{row_set, row_other}
 use Rattle.sc_path.proofs.Gate.{passes_first, passes_more}
 
 pub if_ok : {T E : Type 0} (r : Result T E) (P Q : T → Type 0) → IfOk r P → ((x : T) → P x → Q x) → IfOk r Q

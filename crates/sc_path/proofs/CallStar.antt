@@ -1,11 +1,11 @@
 -- The rows after a call, by the callee's table alone.
-use Rattle.std.proofs.Common.{◌≡◌, ℕ, zero, suc, ◌+◌, ◌-◌, ◌^◌, ◌<◌, ◌≤◌, List, [], ◌∷◌, ◌++◌, map, length, slice_get, Bool, true, false, Option, Some, None, ◌⊎◌, inl, inr, refl, sym, ap, ◌∙◌, subst, arith, All}
+use Rattle.std.proofs.Common.{◌≡◌, ℕ, ◌+◌, ◌-◌, ◌<◌, ◌≤◌, List, [], ◌∷◌, ◌++◌, map, length, Bool, true, false, Option, Some, None, ◌⊎◌, inl, inr, refl, sym, ap, ◌∙◌, subst, arith, All}
 use Rattle.std.specs.Prelude.{nat_lt, max, slice_index, if◌then◌else◌, ◌&&◌}
 use Rattle.std.specs.Option.{option_map}
 use Rattle.std.proofs.lemmas.Bool.{cases_lt}
 use Rattle.sc_gate.specs.declared.gate.Wire.{Wire}
 use Rattle.sc_gate.specs.Chains.{Timed, more, plus, when, over, best, or_zero}
-use Rattle.sc_gate.specs.Paths.{may_start, star, WiresAre, MeetOnlyAt, IsAt, anywhere, call_adds}
+use Rattle.sc_gate.specs.Paths.{star, MeetOnlyAt, IsAt, anywhere, call_adds}
 use Rattle.sc_gate.specs.Renaming.{rename_timed}
 use Rattle.sc_gate.specs.Wires.{member}
 use Rattle.sc_gate.proofs.PathCalls.{best_call, star_call, best_fresh}
@@ -14,7 +14,7 @@ use Rattle.sc_path.specs.declared.row.Entry.{Entry}
 use Rattle.sc_path.specs.declared.fault.PathFault.{PathFault}
 use Rattle.sc_path.specs.declared.fault.PathFault.TheVariants.{CountTooLarge, Memory}
 use Rattle.sc_path.specs.Rows.{same_start, look, row_at, Passes, place}
-use Rattle.sc_path.specs.Tables.{param, wire_of, within, row_for, get_of, IsTable}
+use Rattle.sc_path.specs.Tables.{param, wire_of, within, row_for, IsTable}
 use Rattle.sc_path.specs.Fronts.{stands_in, look_at, source, called, row_after, put_each, Sites, from_of, Bounded, Stands, Placed, WhyCall, WhyNoCall}
 use Rattle.sc_path.proofs.FrontRows.{in_get, or_zero_more}
 use Rattle.sc_path.proofs.Gate.{in_below, member_in, passes_more, passes_all}

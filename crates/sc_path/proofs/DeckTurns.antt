@@ -1,5 +1,5 @@
 -- Calls of a body of a deck, one after another on the same wires, are turns.
-use Rattle.std.proofs.Common.{◌≡◌, ℕ, zero, suc, ◌+◌, ◌-◌, ◌<◌, ◌≤◌, List, [], ◌∷◌, ◌++◌, map, length, get_or, slice_get, Some, refl, sym, ap, ◌∙◌, subst, append_assoc, arith}
+use Rattle.std.proofs.Common.{◌≡◌, ℕ, zero, suc, ◌+◌, ◌<◌, List, [], ◌∷◌, ◌++◌, map, length, get_or, slice_get, Some, refl, sym, ap, ◌∙◌, append_assoc, arith}
 use Rattle.std.proofs.lemmas.List.{map-append}
 use Rattle.sc_base.specs.declared.names.Class.{Class}
 use Rattle.sc_base.specs.declared.names.Class.TheVariants.{Q, C}
@@ -7,10 +7,10 @@ use Rattle.sc_gate.specs.declared.gate.Wire.{Wire}
 use Rattle.sc_gate.specs.Gates.{class_of}
 use Rattle.sc_gate.specs.Numbers.{Numbers, number_of, with_more, no_wires, IsThere}
 use Rattle.sc_deck.specs.Decks.{IsDeck}
-use Rattle.sc_deck.specs.Events.{Event, gates_in, after_events, rename_event}
+use Rattle.sc_deck.specs.Events.{Event, after_events, rename_event}
 use Rattle.sc_deck.specs.Keys.{param_classes, params_of}
 use Rattle.sc_deck.specs.Modules.{Module}
-use Rattle.sc_deck.specs.Placing.{shifted, put, Sized}
+use Rattle.sc_deck.specs.Placing.{shifted, put}
 use Rattle.sc_deck.specs.Renaming.{wire, Renames}
 use Rattle.sc_deck.specs.Unfolding.{of_class, repeated, unfold_on, numbered, wires_from}
 use Rattle.sc_deck.proofs.PlaceLaws.{Sized-params, wires_from-at}

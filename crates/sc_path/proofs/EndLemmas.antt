@@ -1,11 +1,10 @@
 -- The rows before the first item, and what a table keeps of rows.
-use Rattle.std.proofs.Common.{◌≡◌, ℕ, zero, suc, ◌+◌, ◌-◌, ◌<◌, ◌≤◌, List, [], ◌∷◌, ◌++◌, length, get_or, take, Bool, true, false, Option, Some, None, ◌⊎◌, inl, inr, refl, sym, ap, ◌∙◌, subst, arith, eqb-true, eq-eqb}
+use Rattle.std.proofs.Common.{◌≡◌, ℕ, zero, suc, ◌+◌, ◌<◌, ◌≤◌, List, [], ◌∷◌, ◌++◌, length, get_or, take, Bool, true, false, Option, Some, None, refl, sym, ap, ◌∙◌, arith, eqb-true, eq-eqb}
 use Rattle.std.specs.Prelude.{nat_eq, max, slice_index}
 use Rattle.std.proofs.lemmas.List.{take_more}
-use Rattle.std.proofs.lemmas.Bool.{cases_lt}
-use Rattle.sc_gate.specs.Chains.{more, plus, when, or_zero}
+use Rattle.sc_gate.specs.Chains.{more, when, or_zero}
 use Rattle.sc_path.specs.declared.row.Entry.{Entry}
-use Rattle.sc_path.specs.Rows.{same_start, look, row_at, place}
+use Rattle.sc_path.specs.Rows.{same_start, look, place}
 use Rattle.sc_path.specs.Ends.{begin, positive, number_at, start_of}
 use Rattle.sc_path.proofs.Rows.{more_none, look_append}
 

@@ -1,5 +1,5 @@
 -- The rows after one more gate.
-use Rattle.std.proofs.Common.{◌≡◌, ℕ, zero, suc, ◌+◌, ◌^◌, ◌<◌, ◌≤◌, List, [], ◌∷◌, ◌++◌, map, length, get_or, take, drop, Bool, true, false, Option, Some, None, Result, Ok, Err, Vec, Global, ◌⊎◌, inl, inr, refl, sym, ap, ◌∙◌, subst, arith, All}
+use Rattle.std.proofs.Common.{◌≡◌, ℕ, suc, ◌^◌, ◌<◌, ◌≤◌, List, [], ◌∷◌, ◌++◌, map, length, get_or, take, drop, Bool, true, false, Option, Some, None, Result, Ok, Err, Vec, Global, ◌⊎◌, inl, inr, refl, sym, ap, ◌∙◌, subst, arith, All}
 use Rattle.std.specs.Prelude.{max, slice_index, OnOk, if◌then◌else◌}
 use Rattle.std.specs.Vec.{with_items}
 use Rattle.std.proofs.lemmas.Bool.{cases_lt}

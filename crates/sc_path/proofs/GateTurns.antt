@@ -1,5 +1,5 @@
 -- A gate that is applied again and again weighs as one gate of so many times its weight.
-use Rattle.std.proofs.Common.{◌≡◌, ℕ, zero, suc, ◌+◌, ◌*◌, ◌<◌, ◌≤◌, List, [], ◌∷◌, ◌++◌, length, replicate, Bool, true, false, Option, Some, None, ◌⊎◌, inl, inr, refl, sym, ap, ◌∙◌, subst, arith, append_assoc}
+use Rattle.std.proofs.Common.{◌≡◌, ℕ, zero, suc, ◌+◌, ◌*◌, List, [], ◌∷◌, ◌++◌, replicate, Bool, true, false, Option, Some, None, refl, sym, ap, ◌∙◌, arith, append_assoc}
 use Rattle.std.specs.Prelude.{max}
 use Rattle.std.proofs.Math.Nat.{suc-mul}
 use Rattle.sc_gate.specs.declared.gate.Wire.{Wire}
@@ -8,7 +8,7 @@ use Rattle.sc_gate.specs.Paths.{star}
 use Rattle.sc_gate.specs.Wires.{member}
 use Rattle.sc_gate.proofs.OneMoreGate.{star_here, star_away, best_last}
 use Rattle.sc_gate.proofs.PathCalls.{more_assoc}
-use Rattle.sc_gate.proofs.WireLemmas.{member_here, member_later, member_cases}
+use Rattle.sc_gate.proofs.WireLemmas.{member_here, member_later}
 
 -- a gate of so many times the weight
 abbrev pub heavy : ℕ → Timed → Timed

@@ -1,10 +1,9 @@
 -- One more item of a body, on the rows of the items before it.
-use Rattle.std.proofs.Common.{◌≡◌, ◌≢◌, ℕ, zero, suc, ◌+◌, ◌-◌, ◌*◌, ◌<◌, ◌≤◌, List, [], ◌∷◌, ◌++◌, map, length, replicate, get_or, slice_get, Bool, true, false, cond, Option, Some, None, ◌⊎◌, inl, inr, refl, sym, ap, ◌∙◌, subst, arith, append_assoc, append-nil, length-append}
+use Rattle.std.proofs.Common.{◌≡◌, ℕ, zero, suc, ◌+◌, ◌-◌, ◌<◌, ◌≤◌, List, [], ◌∷◌, ◌++◌, map, length, get_or, slice_get, Bool, true, false, cond, Option, Some, None, ◌⊎◌, inl, inr, refl, sym, ap, ◌∙◌, subst, arith, append-nil, length-append}
 use Rattle.std.specs.Prelude.{nat_lt, slice_index, ◌&&◌, not}
 use Rattle.std.specs.List.{AllByRecursion}
 use Rattle.std.proofs.lemmas.Bool.{cases_lt}
 use Rattle.std.proofs.lemmas.List.{get_or-map, get_or-append-add, map-append}
-use Rattle.std.proofs.Math.ListN.{get_or-append}
 use Rattle.std.proofs.lemmas.List.Elements.{All-filter, All-from_recursion}
 use Rattle.sc_base.specs.declared.names.Class.{Class}
 use Rattle.sc_base.specs.declared.names.Class.TheVariants.{Q, C}
@@ -12,40 +11,37 @@ use Rattle.sc_gate.specs.declared.gate.Wire.{Wire}
 use Rattle.sc_gate.specs.declared.gate.Gate.{Gate}
 use Rattle.sc_gate.specs.Chains.{Timed, timed, best}
 use Rattle.sc_gate.specs.Gates.{class_of, operands, AreDistinct}
-use Rattle.sc_gate.specs.Numbers.{Numbers, number_of, no_wires, both, IsThere, AreThere}
+use Rattle.sc_gate.specs.Numbers.{Numbers, number_of, both, IsThere, AreThere}
 use Rattle.sc_gate.specs.Paths.{WiresAre}
-use Rattle.sc_gate.specs.Renaming.{rename_gate, rename_timed}
+use Rattle.sc_gate.specs.Renaming.{rename_timed}
 use Rattle.sc_gate.specs.Wires.{same_class, member}
 use Rattle.sc_gate.proofs.Joined.{in_second}
-use Rattle.sc_gate.proofs.PathRename.{timed_renamed, best_renamed}
-use Rattle.sc_gate.proofs.RenameLemmas.{operands-rename, distinct-rename}
+use Rattle.sc_gate.proofs.PathRename.{best_renamed}
+use Rattle.sc_gate.proofs.RenameLemmas.{distinct-rename}
 use Rattle.sc_gate.proofs.WireLemmas.{same_class-refl, member_cases, member_here, member_later}
 use Rattle.sc_deck.specs.declared.item.Item.{Item}
-use Rattle.sc_deck.specs.declared.item.Item.TheVariants as item
 use Rattle.sc_deck.specs.declared.key.Key.{Key}
 use Rattle.sc_deck.specs.Bodies.{after_items, ItemsFit}
 use Rattle.sc_deck.specs.Decks.{CallsFit, IsDeck}
-use Rattle.sc_deck.specs.Events.{Event, gates_in, after_events, rename_event}
+use Rattle.sc_deck.specs.Events.{Event, gates_in, after_events}
 use Rattle.sc_deck.specs.Items.{WiresFit, after_item}
 use Rattle.sc_deck.specs.Keys.{param_classes, params_of}
 use Rattle.sc_deck.specs.Modules.{Module}
 use Rattle.sc_deck.specs.Placing.{shifted, put, Sized, GatesOn, Fills}
 use Rattle.sc_deck.specs.Renaming.{wire}
-use Rattle.sc_deck.specs.Unfolding.{Unfolding, unfold_item, unfold_items, unfoldings, unfold_on, gates_of, places_with, places_after, placed, repeated, of_class}
+use Rattle.sc_deck.specs.Unfolding.{Unfolding, unfold_item, unfoldings, unfold_on, places_with, places_after, placed, repeated, of_class}
 use Rattle.sc_deck.proofs.FormedLaws.{Fine, put-one_to_one}
 use Rattle.sc_deck.proofs.PlaceLaws.{of_class-map, placed-classes, Sized-params}
-use Rattle.sc_deck.proofs.PutLaws.{put-class, gates_in-put}
-use Rattle.sc_deck.proofs.RenameLaws.{gates_in-rename}
+use Rattle.sc_deck.proofs.PutLaws.{put-class}
 use Rattle.sc_deck.proofs.SequenceLaws.{gates_in-append, after_events-append, unfold_items-append, places_after-append}
 use Rattle.sc_deck.proofs.WireLaws.{after_events-grow, placed-in, placed-all, unfold_on-wires}
 use Rattle.sc_path.specs.declared.row.Entry.{Entry}
 use Rattle.sc_path.specs.Rows.{Passes}
-use Rattle.sc_path.specs.Tables.{param, timed_gates, IsTable}
-use Rattle.sc_path.specs.Fronts.{Sites, Stands, Placed, gate_at}
+use Rattle.sc_path.specs.Tables.{param, IsTable}
+use Rattle.sc_path.specs.Fronts.{Sites, Stands, Placed}
 use Rattle.sc_path.specs.Places.{row_number, rows_for, start_places, events_of, body_sites}
-use Rattle.sc_path.proofs.BodyRows.{fine_start, fine_end, there_grow, placed_put, placed_one, row_there, site_row}
+use Rattle.sc_path.proofs.BodyRows.{fine_start, fine_end, there_grow, placed_put, row_there, site_row}
 use Rattle.sc_path.proofs.CallStar.{lt_true, lt_false}
-use Rattle.sc_path.proofs.DeckTurns.{turns_put, params}
 use Rattle.sc_path.proofs.PowerLemmas.{param_low, param_high, passes_in}
 use Rattle.sc_path.proofs.Reached.{Reached, reached}
 use Rattle.sc_path.proofs.Walk.{IsLater, Grows, places_grow, placed_after}

@@ -1,5 +1,5 @@
 -- The rows after each kind of item.
-use Rattle.std.proofs.Common.{◌≡◌, ℕ, zero, suc, ◌+◌, ◌-◌, ◌*◌, ◌^◌, ◌<◌, ◌≤◌, List, [], ◌∷◌, ◌++◌, map, length, replicate, get_or, take, drop, slice_get, Option, Some, None, refl, sym, ap, ◌∙◌, subst, arith, append_assoc, append-nil}
+use Rattle.std.proofs.Common.{◌≡◌, ℕ, zero, suc, ◌+◌, ◌-◌, ◌*◌, ◌^◌, ◌<◌, ◌≤◌, List, [], ◌∷◌, ◌++◌, map, length, replicate, get_or, take, drop, None, refl, sym, ap, ◌∙◌, subst, arith, append_assoc, append-nil}
 use Rattle.sc_base.specs.declared.names.Class.{Class}
 use Rattle.sc_gate.specs.declared.gate.Wire.{Wire}
 use Rattle.sc_gate.specs.declared.gate.Gate.{Gate}
@@ -12,7 +12,7 @@ use Rattle.sc_deck.specs.declared.item.Item.{Item}
 use Rattle.sc_deck.specs.declared.item.Item.TheVariants as item
 use Rattle.sc_deck.specs.declared.key.Key.{Key}
 use Rattle.sc_deck.specs.Bodies.{Contents, ItemsFit, after_items, wires_of}
-use Rattle.sc_deck.specs.Decks.{CallFits, CallsFit, IsDeck, ItemCallFits}
+use Rattle.sc_deck.specs.Decks.{CallsFit, IsDeck, ItemCallFits}
 use Rattle.sc_deck.specs.Events.{Event, gates_in, after_events}
 use Rattle.sc_deck.specs.Items.{GateFits, WiresFit}
 use Rattle.sc_deck.specs.Keys.{params_of, param_classes}
@@ -24,12 +24,12 @@ use Rattle.sc_path.specs.declared.fault.PathFault.TheVariants.{CountTooLarge, Me
 use Rattle.sc_path.specs.declared.row.Entry.{Entry}
 use Rattle.sc_path.specs.declared.table.Table.{Table}
 use Rattle.sc_path.specs.Rows.{Passes}
-use Rattle.sc_path.specs.Tables.{Extends, StandsFor, WhyAdded, timed_gates, CallKnown, IsTable}
-use Rattle.sc_path.specs.Fronts.{Sites, Stands, Placed, gate_at, WhyGate, WhyNoCall}
+use Rattle.sc_path.specs.Tables.{Extends, StandsFor, timed_gates, CallKnown, IsTable}
+use Rattle.sc_path.specs.Fronts.{Sites, Stands, gate_at, WhyGate, WhyNoCall}
 use Rattle.sc_path.specs.Places.{row_number, rows_for, start_places, events_of, gates_before, body_sites, StandsAt, WhyItem}
 use Rattle.sc_path.specs.Powers.{AreTurns, WhyPower}
 use Rattle.sc_path.proofs.ItemRows.{AfterCall, gates_more, call_more, call_heavy, callee_heavy, call_on, calls_on, passed_kinds}
-use Rattle.sc_path.proofs.Steps.{cut, taken_more, Within, within_deck, critical_heavy, gate_stands, gate_heavy, Callee, callee_of, callee_at, callee_below, callee_rows, item_call}
+use Rattle.sc_path.proofs.Steps.{cut, taken_more, Within, within_deck, critical_heavy, gate_stands, gate_heavy, Callee, callee_of, callee_at, callee_below, item_call}
 use Rattle.sc_path.proofs.TurnLemmas.{Called}
 use Rattle.sc_path.proofs.TurnRows.{gates_again, deck_turns, first_turn, call_is, calls_are, turn}
 

@@ -22,3 +22,4 @@ pub mod ItemSteps
 pub mod BodyTable
 pub mod LawLemmas
 pub mod Loads
+pub mod RowOrder

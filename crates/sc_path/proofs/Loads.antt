@@ -1,5 +1,5 @@
 -- What the gates of a deck's bodies weigh in all.
-use Rattle.std.proofs.Common.{◌≡◌, ℕ, zero, suc, ◌+◌, ◌-◌, ◌^◌, ◌<◌, ◌≤◌, List, [], ◌∷◌, ◌++◌, All, map, length, get_or, take, drop, slice_get, Option, Some, None, ◌⊎◌, inl, inr, refl, sym, ap, ◌∙◌, subst, arith}
+use Rattle.std.proofs.Common.{◌≡◌, ℕ, zero, suc, ◌+◌, ◌-◌, ◌^◌, ◌<◌, ◌≤◌, List, [], ◌∷◌, ◌++◌, All, map, length, get_or, take, drop, slice_get, Option, Some, None, ◌⊎◌, inl, inr, refl, ap, ◌∙◌, subst, arith}
 use Rattle.std.specs.Prelude.{IsSomeAnd, Contains}
 use Rattle.std.proofs.lemmas.Bool.{cases_lt}
 use Rattle.std.proofs.lemmas.List.{map-append, take-append-drop}
@@ -28,7 +28,7 @@ use Rattle.sc_deck.proofs.PlaceLaws.{Sized-item, Sized-params, placed-classes}
 use Rattle.sc_deck.proofs.PutLaws.{expansion-is, numbered-classes}
 use Rattle.sc_deck.proofs.SequenceLaws.{gates_in-append}
 use Rattle.sc_path.specs.Tables.{timed_gates}
-use Rattle.sc_path.proofs.Steps.{Callee, callee_of}
+use Rattle.sc_path.proofs.Steps.{callee_of}
 use Rattle.sc_path.proofs.TurnRows.{call_is}
 
 abbrev weight : List ℕ → List Event → ℕ

@@ -1,15 +1,9 @@
 -- The rows of a call's wires stand for the wires that the callee's parameters are put on.
-use Rattle.std.proofs.Common.{◌≡◌, ℕ, zero, suc, ◌+◌, ◌-◌, ◌<◌, ◌≤◌, List, [], ◌∷◌, ◌++◌, map, length, get_or, Bool, true, false, cond, ◌⊎◌, inl, inr, refl, sym, ap, ◌∙◌, subst, arith, length-append}
-use Rattle.std.specs.Prelude.{slice_index}
-use Rattle.std.specs.List.{AllByRecursion}
-use Rattle.std.proofs.Math.ListN.{get_or-append}
-use Rattle.std.proofs.lemmas.Bool.{cases_lt}
-use Rattle.std.proofs.lemmas.List.{get_or-map, get_or-append-add}
+use Rattle.std.proofs.Common.{◌≡◌, ℕ, suc, ◌+◌, ◌-◌, ◌<◌, ◌≤◌, List, [], ◌∷◌, map, length, cond, refl, ap, ◌∙◌, arith, length-append}
 use Rattle.sc_base.specs.declared.names.Class.{Class}
 use Rattle.sc_base.specs.declared.names.Class.TheVariants.{Q, C}
 use Rattle.sc_gate.specs.declared.gate.Wire.{Wire}
-use Rattle.sc_gate.specs.Gates.{class_of}
-use Rattle.sc_gate.specs.Numbers.{Numbers, number_of, IsThere, AreThere}
+use Rattle.sc_gate.specs.Numbers.{Numbers, number_of, IsThere}
 use Rattle.sc_gate.specs.Wires.{same_class}
 use Rattle.sc_deck.specs.Unfolding.{of_class}
 use Rattle.sc_path.specs.Places.{row_in, row_number, rows_for}

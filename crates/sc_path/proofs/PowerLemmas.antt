@@ -1,7 +1,6 @@
 -- Turns one after another.
-use Rattle.std.proofs.Common.{◌≡◌, ℕ, zero, suc, ◌+◌, ◌-◌, ◌*◌, ◌^◌, ◌<◌, ◌≤◌, List, [], ◌∷◌, ◌++◌, map, length, replicate, get_or, Bool, true, false, Option, Some, None, ◌⊎◌, inl, inr, refl, sym, ap, ◌∙◌, subst, arith, All, length-append}
-use Rattle.std.specs.Prelude.{nat_eq, nat_lt, slice_index, if◌then◌else◌}
-use Rattle.std.specs.Option.{option_map}
+use Rattle.std.proofs.Common.{◌≡◌, ℕ, zero, suc, ◌+◌, ◌-◌, ◌*◌, ◌<◌, ◌≤◌, List, [], ◌∷◌, ◌++◌, map, length, replicate, Bool, true, false, Option, Some, None, ◌⊎◌, inl, inr, refl, sym, ap, ◌∙◌, subst, arith, length-append}
+use Rattle.std.specs.Prelude.{nat_eq, slice_index, if◌then◌else◌}
 use Rattle.std.proofs.Common.{eqb-true, eq-eqb}
 use Rattle.std.proofs.Math.Nat.{add-mul, mul-add}
 use Rattle.std.proofs.lemmas.Bool.{cases_lt}
@@ -9,10 +8,10 @@ use Rattle.std.proofs.lemmas.List.{get_or-replicate, get_or_past}
 use Rattle.sc_base.specs.declared.names.Class.{Class}
 use Rattle.sc_base.specs.declared.names.Class.TheVariants.{Q, C}
 use Rattle.sc_gate.specs.declared.gate.Wire.{Wire}
-use Rattle.sc_gate.specs.Chains.{Timed, Reached, Bounds, more, when, best}
+use Rattle.sc_gate.specs.Chains.{Timed, Reached, when, best}
 use Rattle.sc_gate.specs.Paths.{WiresAre}
 use Rattle.sc_gate.specs.Renaming.{rename_timed}
-use Rattle.sc_gate.specs.Wires.{same_wire, member}
+use Rattle.sc_gate.specs.Wires.{same_wire}
 use Rattle.sc_gate.proofs.Weighs.{Weighs, greatest_weighs}
 use Rattle.sc_gate.proofs.Joined.{in_first, in_second}
 use Rattle.sc_gate.proofs.PathRename.{best_renamed}
@@ -20,8 +19,8 @@ use Rattle.sc_gate.proofs.WireLemmas.{same_wire-true, same_wire-refl}
 use Rattle.sc_path.specs.declared.row.Entry.{Entry}
 use Rattle.sc_path.specs.Rows.{look, row_at, Passes, place}
 use Rattle.sc_path.specs.Ends.{begin, start_in}
-use Rattle.sc_path.specs.Tables.{param, IsTable}
-use Rattle.sc_path.specs.Fronts.{Sites, from_of, Bounded, Stands, Placed}
+use Rattle.sc_path.specs.Tables.{param}
+use Rattle.sc_path.specs.Fronts.{Bounded, Stands, Placed}
 use Rattle.sc_path.specs.Powers.{IsParam, Follows, AreTurns, params_at, IsRange}
 use Rattle.sc_path.proofs.CallStar.{lt_true, lt_false}
 use Rattle.sc_path.proofs.Gate.{passes_bound}

@@ -1,5 +1,5 @@
 -- Where a body stands before one of its items: its places, the next numbers, and the wires of its gates so far.
-use Rattle.std.proofs.Common.{◌≡◌, ◌≢◌, ℕ, zero, suc, ◌+◌, ◌<◌, ◌≤◌, List, [], ◌∷◌, ◌++◌, map, slice_get, Option, Some, None, refl, sym, ap, ◌∙◌, subst, arith}
+use Rattle.std.proofs.Common.{◌≡◌, ◌≢◌, ℕ, zero, suc, ◌<◌, ◌≤◌, List, [], ◌∷◌, ◌++◌, map, slice_get, Option, Some, None, refl, sym, ap, ◌∙◌, subst, arith}
 use Rattle.std.specs.Prelude.{IsSomeAnd}
 use Rattle.std.specs.List.{AllByRecursion}
 use Rattle.sc_base.specs.declared.names.Class.{Class}
@@ -13,16 +13,16 @@ use Rattle.sc_deck.specs.declared.item.Item.{Item}
 use Rattle.sc_deck.specs.declared.item.Item.TheVariants as item
 use Rattle.sc_deck.specs.Bodies.{after_items, ItemsFit}
 use Rattle.sc_deck.specs.Decks.{CallFits, ItemCallFits, CallsFit, IsDeck}
-use Rattle.sc_deck.specs.Events.{Event, Apply, gates_in, after_events}
+use Rattle.sc_deck.specs.Events.{Event, gates_in, after_events}
 use Rattle.sc_deck.specs.Items.{ItemFits, after_item}
 use Rattle.sc_deck.specs.Keys.{param_classes}
 use Rattle.sc_deck.specs.Modules.{Module}
-use Rattle.sc_deck.specs.Placing.{Sized, GatesOn, Fills}
+use Rattle.sc_deck.specs.Placing.{GatesOn}
 use Rattle.sc_deck.specs.Renaming.{wire}
 use Rattle.sc_deck.specs.Unfolding.{Unfolding, unfolding_at, unfold_item, unfold_items, unfoldings, unfold_on, places_with, places_after, placed, repeated, wires_from}
 use Rattle.sc_deck.proofs.FormedLaws.{Fine, there_later}
 use Rattle.sc_deck.proofs.PlaceLaws.{Sized-item, placed-classes}
-use Rattle.sc_deck.proofs.SequenceLaws.{gates_in-append, after_events-append, unfold_items-append}
+use Rattle.sc_deck.proofs.SequenceLaws.{gates_in-append, after_events-append}
 use Rattle.sc_deck.proofs.WireLaws.{after_events-grow, placed-all, more_of, made_all, unfold_on-wires}
 
 all_append : {X : Type 0} (P : X → Type 0) (xs ys : List X) → AllByRecursion P xs → AllByRecursion P ys → AllByRecursion P (xs ++ ys)

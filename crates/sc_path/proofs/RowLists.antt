@@ -1,5 +1,5 @@
 -- The rows of wires, as they are listed.
-use Rattle.std.proofs.Common.{◌≡◌, ℕ, zero, suc, ◌+◌, ◌-◌, ◌<◌, ◌≤◌, List, [], ◌∷◌, ◌++◌, map, length, get_or, take, Bool, true, false, cond, Option, Some, None, refl, sym, ap, ◌∙◌, subst, arith, append_assoc, append-nil, All}
+use Rattle.std.proofs.Common.{◌≡◌, ℕ, zero, suc, ◌+◌, ◌<◌, List, [], ◌∷◌, ◌++◌, map, length, get_or, take, Bool, true, false, cond, Option, Some, sym, ap, ◌∙◌, arith, append_assoc, All}
 use Rattle.std.specs.Prelude.{option_to_list}
 use Rattle.std.specs.List.{range_with_len}
 use Rattle.std.proofs.lemmas.List.{take_more, map-append}
@@ -8,7 +8,6 @@ use Rattle.sc_base.specs.declared.names.Class.{Class}
 use Rattle.sc_gate.specs.declared.gate.Wire.{Wire}
 use Rattle.sc_gate.specs.Wires.{same_class}
 use Rattle.sc_deck.specs.Unfolding.{of_class}
-use Rattle.sc_path.specs.Places.{row_number}
 
 -- one more wire of a class
 pub class_more : (f : Wire → ℕ) (class : Class) (wires : List Wire) (k : ℕ) (d : Wire) (old now next : List ℕ) → k < length wires → now ≡ old ++ map f (of_class class (take k wires)) →

@@ -1,5 +1,5 @@
 -- One more item of a body, in every deck of which these are the tables.
-use Rattle.std.proofs.Common.{◌≡◌, ◌≢◌, eqb-true, ℕ, zero, suc, ◌+◌, ◌-◌, ◌*◌, ◌^◌, ◌<◌, ◌≤◌, List, [], ◌∷◌, ◌++◌, All, map, length, replicate, get_or, take, drop, slice_get, Bool, true, false, cond, Option, Some, None, refl, sym, ap, ◌∙◌, subst, arith, append-nil, append_assoc}
+use Rattle.std.proofs.Common.{◌≡◌, ◌≢◌, eqb-true, ℕ, zero, suc, ◌+◌, ◌*◌, ◌^◌, ◌<◌, ◌≤◌, List, [], ◌∷◌, ◌++◌, All, map, length, replicate, get_or, take, drop, slice_get, Bool, true, false, cond, Option, Some, None, refl, sym, ap, ◌∙◌, subst, arith, append-nil}
 use Rattle.std.specs.Prelude.{IsSomeAnd, nat_eq, ◌||◌}
 use Rattle.std.specs.List.{AllByRecursion, IsDistinct, list_any}
 use Rattle.std.proofs.lemmas.Map.Steps.{length-le_from_distinct_below}
@@ -13,9 +13,9 @@ use Rattle.sc_gate.specs.declared.gate.Gate.{Gate}
 use Rattle.sc_gate.specs.Chains.{Timed, timed, best, or_zero, critical_of}
 use Rattle.sc_gate.specs.Gates.{class_of, operands, IsNew, AreDistinct}
 use Rattle.sc_gate.specs.Numbers.{Numbers, number_of, both, IsThere, AreThere}
-use Rattle.sc_gate.specs.Renaming.{rename_gate, rename_timed}
-use Rattle.sc_gate.specs.Times.{AreTimes, duration}
-use Rattle.sc_gate.specs.Wires.{member, same_class}
+use Rattle.sc_gate.specs.Renaming.{rename_gate}
+use Rattle.sc_gate.specs.Times.{duration}
+use Rattle.sc_gate.specs.Wires.{same_class}
 use Rattle.sc_gate.proofs.Joined.{in_first}
 use Rattle.sc_gate.proofs.RenameLemmas.{operands-rename}
 use Rattle.sc_gate.proofs.WireLemmas.{member_here}
@@ -24,29 +24,27 @@ use Rattle.sc_deck.specs.declared.item.Item.TheVariants as item
 use Rattle.sc_deck.specs.declared.key.Key.{Key}
 use Rattle.sc_deck.specs.Bodies.{Contents, ItemsFit, IsBody, after_items, wires_of}
 use Rattle.sc_deck.specs.Decks.{CallsFit, IsDeck, CallFits, ItemCallFits}
-use Rattle.sc_deck.specs.Events.{Event, gates_in, after_events, Apply, Enter, Return}
-use Rattle.sc_deck.specs.Items.{ItemFits, GateFits, WiresFit, after_item}
+use Rattle.sc_deck.specs.Events.{Event, gates_in, after_events, Return}
+use Rattle.sc_deck.specs.Items.{ItemFits, GateFits, after_item}
 use Rattle.sc_deck.specs.Keys.{params_of, param_classes}
 use Rattle.sc_deck.specs.Modules.{Module, body_of}
-use Rattle.sc_deck.specs.Unfolding.{Unfolding, unfold_item, unfold_items, unfoldings, unfold_on, unfold_module, gates_of, expansion, places_after, placed, repeated, of_class}
+use Rattle.sc_deck.specs.Unfolding.{Unfolding, unfold_items, unfoldings, places_after, placed, of_class}
 use Rattle.sc_deck.proofs.CallLaws.{CallEarlier-at}
 use Rattle.sc_deck.proofs.PutLaws.{expansion-is}
 use Rattle.sc_deck.proofs.SequenceLaws.{gates_in-append, unfold_items-append, unfold_on-last}
 use Rattle.sc_deck.proofs.TextLaws.{IsDeck-front}
-use Rattle.sc_path.specs.declared.fault.PathFault.{PathFault}
-use Rattle.sc_path.specs.declared.fault.PathFault.TheVariants.{CountTooLarge, Memory}
 use Rattle.sc_path.specs.declared.row.Entry.{Entry}
 use Rattle.sc_path.specs.declared.table.Table.{Table}
 use Rattle.sc_path.specs.Rows.{Passes}
-use Rattle.sc_path.specs.Tables.{param, Extends, StandsFor, WhyAdded, timed_gates, CallKnown, ItemKnown, CallsKnown}
-use Rattle.sc_path.specs.Fronts.{Sites, Stands, gate_at, WhyGate}
-use Rattle.sc_path.specs.Places.{row_number, rows_for, start_places, events_of, gates_before, body_sites, StandsAt, WhyItem}
+use Rattle.sc_path.specs.Tables.{param, Extends, timed_gates, CallKnown, ItemKnown, CallsKnown}
+use Rattle.sc_path.specs.Fronts.{Sites, Stands, gate_at}
+use Rattle.sc_path.specs.Places.{row_number, rows_for, start_places, events_of, body_sites}
 use Rattle.sc_path.proofs.GateTurns.{heavy, best_turns}
-use Rattle.sc_path.proofs.ItemRows.{gates_more, site_before, after_items-append}
+use Rattle.sc_path.proofs.ItemRows.{site_before, after_items-append}
 use Rattle.sc_path.proofs.BodyRows.{there_grow}
 use Rattle.sc_path.proofs.PlaceLemmas.{row_below, param_row}
 use Rattle.sc_path.proofs.PowerLemmas.{passes_in}
-use Rattle.sc_path.proofs.TurnRows.{gates_again, stands_turns}
+use Rattle.sc_path.proofs.TurnRows.{stands_turns}
 
 -- a list at one of its places
 pub cut : {X : Type 0} (xs : List X) (n : ℕ) (d x : X) → n < length xs → get_or xs n d ≡ x → xs ≡ take n xs ++ x ∷ drop (suc n) xs

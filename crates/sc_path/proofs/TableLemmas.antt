@@ -1,15 +1,13 @@
 -- The table of a gate list from the rows of its wires.
-use Rattle.std.proofs.Common.{◌≡◌, ℕ, zero, suc, ◌+◌, ◌-◌, ◌<◌, ◌≤◌, List, [], ◌∷◌, length, replicate, Bool, true, false, Option, Some, None, ◌⊎◌, inl, inr, refl, sym, ap, ◌∙◌, subst, arith, All, eqb-true, eq-eqb}
+use Rattle.std.proofs.Common.{◌≡◌, ℕ, ◌+◌, ◌-◌, ◌<◌, ◌≤◌, List, [], length, Bool, true, false, Option, Some, None, ◌⊎◌, inl, inr, refl, sym, ap, ◌∙◌, arith, All}
 use Rattle.std.specs.Prelude.{nat_eq, nat_lt, slice_index, if◌then◌else◌, ◌&&◌}
-use Rattle.std.specs.Option.{option_map}
 use Rattle.std.proofs.lemmas.Bool.{cases_lt}
 use Rattle.std.proofs.lemmas.List.Elements.{All-get_or}
 use Rattle.sc_gate.specs.declared.gate.Wire.{Wire}
-use Rattle.sc_gate.specs.Chains.{Timed, more, plus, when, best, or_zero}
+use Rattle.sc_gate.specs.Chains.{Timed, more, when, best}
 use Rattle.sc_gate.specs.Paths.{may_start, star, TakeTime}
 use Rattle.sc_gate.specs.Wires.{same_wire}
 use Rattle.sc_gate.proofs.PathCalls.{best_above_zero}
-use Rattle.sc_gate.proofs.WireLemmas.{same_wire-true, same_wire-refl}
 use Rattle.sc_path.specs.declared.row.Entry.{Entry}
 use Rattle.sc_path.specs.Rows.{look, row_at, place}
 use Rattle.sc_path.specs.Ends.{begin, positive, number_at}

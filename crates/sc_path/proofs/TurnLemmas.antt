@@ -1,5 +1,5 @@
 -- Calls that are turns.
-use Rattle.std.proofs.Common.{◌≡◌, ℕ, zero, suc, ◌+◌, ◌-◌, ◌*◌, ◌/◌, ◌%◌, ◌<◌, ◌≤◌, List, [], ◌∷◌, ◌++◌, map, length, replicate, get_or, Option, Some, None, refl, sym, ap, ◌∙◌, subst, arith, All}
+use Rattle.std.proofs.Common.{◌≡◌, ℕ, zero, suc, ◌+◌, ◌-◌, ◌*◌, ◌/◌, ◌%◌, ◌<◌, ◌≤◌, List, [], ◌∷◌, ◌++◌, map, length, replicate, get_or, Option, None, refl, sym, ap, ◌∙◌, subst, arith, All}
 use Rattle.std.specs.Prelude.{slice_index}
 use Rattle.std.proofs.Math.Nat.{suc-mul, add-mul, mul-add}
 use Rattle.sc_gate.specs.Chains.{Timed, best}
@@ -12,7 +12,7 @@ use Rattle.sc_path.specs.Ends.{begin, start_in, positive, number_at}
 use Rattle.sc_path.specs.Tables.{param, IsTable}
 use Rattle.sc_path.specs.Fronts.{Sites, Bounded, Stands, Placed, WhyNoCall}
 use Rattle.sc_path.specs.Powers.{AreTurns, params_at, IsRange, WhyPower, WhyTurn, WhyTwice, WhyTurns}
-use Rattle.sc_path.proofs.PowerLemmas.{placed_turns, passes_front, passes_back, stands_idle, last_size}
+use Rattle.sc_path.proofs.PowerLemmas.{placed_turns, passes_front, passes_back, stands_idle}
 use Rattle.sc_path.proofs.TableLemmas.{table_is}
 
 -- what a call leaves

@@ -1,15 +1,14 @@
 -- Calls of a body of a deck are turns, and so are gates of an item.
-use Rattle.std.proofs.Common.{◌≡◌, ℕ, zero, suc, ◌+◌, ◌-◌, ◌*◌, ◌<◌, ◌≤◌, List, [], ◌∷◌, ◌++◌, map, length, replicate, slice_get, Bool, true, false, Option, Some, None, ◌⊎◌, inl, inr, refl, sym, ap, ◌∙◌, subst, arith, append-nil}
+use Rattle.std.proofs.Common.{◌≡◌, ℕ, zero, suc, ◌+◌, ◌<◌, ◌≤◌, List, [], ◌∷◌, ◌++◌, map, replicate, slice_get, Bool, true, false, Some, ◌⊎◌, inl, inr, refl, sym, ap, ◌∙◌, subst, arith, append-nil}
 use Rattle.std.specs.Prelude.{nat_lt, not}
 use Rattle.std.specs.List.{AllByRecursion}
 use Rattle.std.proofs.lemmas.List.{map-append}
-use Rattle.sc_base.specs.declared.names.Class.{Class}
 use Rattle.sc_base.specs.declared.names.GateName.{GateName}
 use Rattle.sc_base.specs.declared.names.GateName.TheVariants as name
 use Rattle.sc_gate.specs.declared.gate.Wire.{Wire}
 use Rattle.sc_gate.specs.declared.gate.Gate.{Gate}
-use Rattle.sc_gate.specs.Chains.{Timed, timed, best, or_zero}
-use Rattle.sc_gate.specs.Gates.{class_of, AreDistinct, name_of, place_of}
+use Rattle.sc_gate.specs.Chains.{Timed, timed, or_zero}
+use Rattle.sc_gate.specs.Gates.{class_of, name_of, place_of}
 use Rattle.sc_gate.specs.Numbers.{Numbers, number_of, both, IsThere, AreThere}
 use Rattle.sc_gate.specs.Paths.{WiresAre, TakeTime}
 use Rattle.sc_gate.specs.Renaming.{rename_timed}
@@ -17,19 +16,18 @@ use Rattle.sc_gate.specs.Times.{AreTimes}
 use Rattle.sc_gate.specs.Wires.{member}
 use Rattle.sc_gate.proofs.PathRename.{timed_renamed}
 use Rattle.sc_deck.specs.Decks.{IsDeck}
-use Rattle.sc_deck.specs.Events.{Event, Apply, gates_in, after_events, rename_event}
+use Rattle.sc_deck.specs.Events.{Event, Apply, gates_in, after_events}
 use Rattle.sc_deck.specs.Keys.{param_classes, params_of}
 use Rattle.sc_deck.specs.Modules.{Module}
-use Rattle.sc_deck.specs.Placing.{put, GatesOn, Fills}
-use Rattle.sc_deck.specs.Unfolding.{repeated, unfold_on, gates_of, numbered}
-use Rattle.sc_deck.proofs.FormedLaws.{Fine, put-one_to_one}
+use Rattle.sc_deck.specs.Placing.{put, GatesOn}
+use Rattle.sc_deck.specs.Unfolding.{repeated, unfold_on, gates_of}
+use Rattle.sc_deck.proofs.FormedLaws.{put-one_to_one}
 use Rattle.sc_deck.proofs.PutLaws.{numbered-classes, gates_in-put, expansion-is}
 use Rattle.sc_deck.proofs.RenameLaws.{gates_in-rename}
 use Rattle.sc_deck.proofs.SequenceLaws.{gates_in-append}
 use Rattle.sc_deck.proofs.WireLaws.{after_events-grow, unfold_on-wires}
 use Rattle.sc_path.specs.declared.row.Entry.{Entry}
-use Rattle.sc_path.specs.Rows.{place}
-use Rattle.sc_path.specs.Tables.{param, timed_gates, IsTable}
+use Rattle.sc_path.specs.Tables.{param, timed_gates}
 use Rattle.sc_path.specs.Fronts.{Sites, from_of, Stands}
 use Rattle.sc_path.specs.Places.{row_number}
 use Rattle.sc_path.specs.Powers.{IsParam, Follows, AreTurns}

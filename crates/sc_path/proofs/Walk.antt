@@ -1,5 +1,5 @@
 -- The wires of a body's items, from the places after the last item.
-use Rattle.std.proofs.Common.{◌≡◌, ℕ, zero, suc, ◌+◌, ◌<◌, ◌≤◌, List, [], ◌∷◌, ◌++◌, map, length, refl, sym, ap, ◌∙◌, subst, arith, append_assoc, append-nil}
+use Rattle.std.proofs.Common.{◌≡◌, ℕ, ◌<◌, ◌≤◌, List, [], ◌∷◌, ◌++◌, sym, ap, ◌∙◌, subst, arith, append_assoc, append-nil}
 use Rattle.std.specs.List.{AllByRecursion}
 use Rattle.sc_base.specs.declared.names.Class.{Class}
 use Rattle.sc_gate.specs.declared.gate.Wire.{Wire}
@@ -8,7 +8,7 @@ use Rattle.sc_deck.specs.declared.item.Item.{Item}
 use Rattle.sc_deck.specs.declared.item.Item.TheVariants as item
 use Rattle.sc_deck.specs.Events.{Event, after_events}
 use Rattle.sc_deck.specs.Placing.{Sized}
-use Rattle.sc_deck.specs.Unfolding.{Unfolding, unfold_item, unfold_items, places_with, places_after, placed, wires_from, of_class}
+use Rattle.sc_deck.specs.Unfolding.{Unfolding, unfold_item, places_after, placed, wires_from}
 use Rattle.sc_deck.proofs.PlaceLaws.{placed-before}
 use Rattle.sc_deck.proofs.WireLaws.{after_events-grow, made_all}
 

@@ -1,9 +1,8 @@
 -- What the rows of a body say of the gates so far.
-use Rattle.std.specs.Prelude.{◌≡◌, ℕ, zero, suc, ◌+◌, ◌-◌, ◌<◌, ◌≤◌, nat_eq, nat_lt, List, [], ◌∷◌, ◌++◌, map, length, Bool, true, false, ◌||◌, ◌⊎◌, Option, Some, None, slice_index, slice_index_or, slice_get, if◌then◌else◌}
+use Rattle.std.specs.Prelude.{◌≡◌, ℕ, suc, ◌<◌, ◌≤◌, nat_eq, List, [], ◌∷◌, ◌++◌, map, length, Bool, true, false, ◌||◌, ◌⊎◌, Option, Some, None, slice_index, slice_get, if◌then◌else◌}
 use Rattle.std.specs.Option.{option_map}
-use Rattle.sc_base.specs.declared.names.Class.TheVariants.{Q, C}
 use Rattle.sc_gate.specs.declared.gate.Wire.{Wire}
-use Rattle.sc_gate.specs.Chains.{Timed, more, plus, when, over, best, or_zero}
+use Rattle.sc_gate.specs.Chains.{Timed, more, plus, when, best, or_zero}
 use Rattle.sc_gate.specs.Paths.{star, WiresAre}
 use Rattle.sc_gate.specs.Renaming.{rename_timed, IsOneToOne}
 use Rattle.sc_path.specs.declared.row.Entry.{Entry}

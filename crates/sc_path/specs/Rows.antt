@@ -1,5 +1,6 @@
 -- What the rows of a path table say.
-use Rattle.std.specs.Prelude.{ℕ, suc, ◌^◌, ◌≤◌, List, [], ◌∷◌, Bool, true, false, Option, Some, None, nat_eq, slice_index_or}
+use Rattle.std.specs.Prelude.{◌≡◌, ℕ, suc, ◌^◌, ◌<◌, ◌≤◌, ◌⊎◌, List, [], ◌∷◌, Bool, true, false, Option, Some, None, nat_eq, slice_index_or}
+use Rattle.std.specs.List.{AllByRecursion}
 use Rattle.sc_path.specs.declared.row.Entry.{Entry}
 use Rattle.sc_path.specs.declared.fault.PathFault.{PathFault}
 use Rattle.sc_path.specs.declared.fault.PathFault.TheVariants.{CountTooLarge, Memory}
@@ -11,6 +12,36 @@ same_start None None = true
 same_start None (Some v) = false
 same_start (Some u) None = false
 same_start (Some u) (Some v) = nat_eq u v
+
+-- where a start has its place among all starts: anywhere comes first
+abbrev pub place : Option ℕ → ℕ
+place None = 0
+place (Some u) = suc u
+
+-- each entry's start has its place before this one, or after it
+abbrev pub AreBefore : ℕ → List Entry → Type 0
+AreBefore p es = AllByRecursion (λ e. place e.start < p) es
+
+abbrev pub AreAfter : ℕ → List Entry → Type 0
+AreAfter p es = AllByRecursion (λ e. p < place e.start) es
+
+-- ANYWHERE STANDS FIRST, and then the parameter wires ascend; so no start stands twice
+abbrev pub Ascends : List Entry → Type 0
+Ascends [] = Unit {0}
+Ascends (e ∷ es) = AreAfter (place e.start) es × Ascends es
+
+-- each entry has a weight above 0
+abbrev pub HaveWeights : List Entry → Type 0
+HaveWeights es = AllByRecursion (λ e. 0 < e.weight) es
+
+-- an entry has this start
+abbrev pub StartsIn : List Entry → Option ℕ → Type 0
+StartsIn [] s = ⊥
+StartsIn (e ∷ es) s = (e.start ≡ s) ⊎ StartsIn es s
+
+-- each entry of the first list stands before each of the second
+abbrev pub AreApart : List Entry → List Entry → Type 0
+AreApart es fs = AllByRecursion (λ e. AreAfter (place e.start) fs) es
 
 -- the greatest weight of an entry with this start
 abbrev pub look : List Entry → Option ℕ → Option ℕ
@@ -42,8 +73,3 @@ pub record Heavy (b : List Entry) (by : ℕ) : Type 0 where
 abbrev pub WhyHeavy : List Entry → ℕ → PathFault → Type 0
 WhyHeavy b by Memory = Unit {0}
 WhyHeavy b by CountTooLarge = Heavy b by
-
--- where a start has its place among all starts: anywhere comes first
-abbrev pub place : Option ℕ → ℕ
-place None = 0
-place (Some u) = suc u

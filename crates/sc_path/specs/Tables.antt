@@ -1,11 +1,11 @@
 -- Path tables, and the decks whose tables are kept.
-use Rattle.std.specs.Prelude.{◌≡◌, ℕ, ◌+◌, ◌-◌, ◌≤◌, ◌^◌, nat_lt, Bool, true, ◌&&◌, List, [], ◌∷◌, ◌++◌, map, length, slice_get, Option, Some, None, IsSomeAnd, if◌then◌else◌}
+use Rattle.std.specs.Prelude.{◌≡◌, ℕ, ◌+◌, ◌-◌, ◌≤◌, ◌^◌, nat_lt, Bool, true, ◌&&◌, List, [], ◌∷◌, ◌++◌, map, length, slice_get, All, Option, Some, None, IsSomeAnd, if◌then◌else◌}
 use Rattle.std.specs.List.{AllByRecursion}
 use Rattle.std.specs.Option.{option_map, option_map_or}
 use Rattle.sc_base.specs.declared.names.Class.TheVariants.{Q, C}
 use Rattle.sc_gate.specs.declared.gate.Wire.{Wire}
 use Rattle.sc_gate.specs.Chains.{Timed, timed, when, best, or_zero, critical_of}
-use Rattle.sc_gate.specs.Numbers.{Numbers, both}
+use Rattle.sc_gate.specs.Numbers.{both}
 use Rattle.sc_deck.specs.declared.item.Item.{Item}
 use Rattle.sc_deck.specs.declared.item.Item.TheVariants as item
 use Rattle.sc_deck.specs.Bodies.{Contents}
@@ -18,7 +18,7 @@ use Rattle.sc_path.specs.declared.row.Entry.{Entry}
 use Rattle.sc_path.specs.declared.fault.PathFault.{PathFault}
 use Rattle.sc_path.specs.declared.fault.PathFault.TheVariants.{CountTooLarge, Memory}
 use Rattle.sc_path.specs.declared.table.Table.{Table}
-use Rattle.sc_path.specs.Rows.{look, row_at}
+use Rattle.sc_path.specs.Rows.{look, row_at, HaveWeights}
 
 -- parameter wire u, where the first q parameter wires are qubits and the others classical bits
 abbrev pub param : ℕ → ℕ → Wire
@@ -80,11 +80,12 @@ pub record Extends (modules : List Module) (key : Key) (body : Contents) : Type 
   pub params : params_of key ≡ body.params
   pub deck : IsDeck (modules ++ record { key = key; items = body.items } ∷ [])
 
--- one table more, with a row for each parameter wire of the body and the last row
+-- one table more, with a row for each parameter wire of the body and the last row, and with no entry of weight 0
 pub record HasTableMore (old new : List Table) (body : Contents) : Type 0 where
   pub table : Table
   pub appended : new ≡ old ++ table ∷ []
   pub size : length table.rows ≡ both body.params + 1
+  pub weights : All HaveWeights table.rows
 
 -- Why a body is refused: a chain of its expansion is too heavy.
 abbrev pub WhyAdded : List Table → List ℕ → Contents → PathFault → Type 0

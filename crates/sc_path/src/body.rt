@@ -13,6 +13,7 @@ ghost use Rattle.sc_gate.specs.Times.{AreTimes, duration};
 ghost use Rattle.sc_path.specs.declared.fault.PathFault.TheVariants.{Memory};
 ghost use Rattle.sc_path.specs.Fronts.{Sites, Bounded, Stands, Placed, gate_at, WhyGate, WhyNoCall};
 ghost use Rattle.sc_path.specs.Places.{row_number, rows_for, StandsAt, WhyItem};
+ghost use Rattle.sc_path.specs.Rows.{HaveWeights};
 ghost use Rattle.sc_path.specs.Tables.{CallsKnown, Extends, StandsFor, IsTable, IsTableOf, WhyAdded};
 
 use crate::front::{Front, add_call, add_gate};
@@ -32,6 +33,7 @@ pub fn table_of(
 ) -> Result<Table, PathFault>
     requires known { CallsKnown tables.now body.now.items }
     ensures size { IfOk result (λ table. length table.rows ≡ both body.now.params + 1) }
+    ensures weights { IfOk result (λ table. All HaveWeights table.rows) }
     ensures table { IfOk result (λ table. (modules : List Module) (key : Key) → Extends modules key body.now → StandsFor tables.now times.now modules →
         IsTableOf times.now (modules ++ record { key = key; items = body.now.items } ∷ []) (length modules) (record { key = key; items = body.now.items }) table) }
     ensures large { IfErr result (WhyAdded tables.now times.now body.now) }

@@ -3,7 +3,7 @@ ghost use Rattle.std.specs.Prelude.{◌≡◌, ℕ, ◌+◌, ◌<◌, ◌≤◌,
 ghost use Rattle.sc_gate.specs.Chains.{Timed, or_zero, more, plus};
 ghost use Rattle.sc_gate.specs.Renaming.{rename_timed};
 ghost use Rattle.sc_path.specs.declared.fault.PathFault.TheVariants.{Memory};
-ghost use Rattle.sc_path.specs.Rows.{look, row_at, place};
+ghost use Rattle.sc_path.specs.Rows.{look, row_at, place, Ascends};
 ghost use Rattle.sc_path.specs.Tables.{IsTable};
 ghost use Rattle.sc_path.specs.Fronts.{Sites, Bounded, Stands, gate_at, through, put_at, source, called, row_after, Placed, WhyThrough, WhyGate, WhyCalled, WhyCall, WhyNoCall, put_each};
 
@@ -32,7 +32,8 @@ fn place_of(start: Option<u32>) -> usize
 /// The entries of the row at a place.
 pub fn entries_of(rows: &[Row], at: usize) -> &[Entry]
     requires { at < length rows.now }
-    ensures { result.now ≡ row_at rows.now at }
+    ensures row { result.now ≡ row_at rows.now at }
+    ensures ascends { Ascends result.now }
 {
     rows[at].as_slice()
 }
@@ -77,7 +78,8 @@ fn put_copies(
     wires: &[u32],
     row: &[Entry],
 ) -> Result<(), PathFault>
-    requires { All (λ w. w < length rows.now) wires.now }
+    requires below { All (λ w. w < length rows.now) wires.now }
+    requires ascends { Ascends row.now }
     ensures len { length rows.new ≡ length rows.old }
     ensures put { OnOk result ((w : ℕ) (s : Option ℕ) → look (row_at rows.new w) s ≡ put_at rows.old wires.now row.now w s) }
     ensures err { IfErr result (λ fault. fault ≡ Memory) }

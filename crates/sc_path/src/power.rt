@@ -3,6 +3,7 @@ ghost use Rattle.std.specs.Prelude.{◌≡◌, ℕ, ◌+◌, ◌-◌, ◌*◌, �
 ghost use Rattle.sc_gate.specs.Chains.{Timed, best, critical_of};
 ghost use Rattle.sc_path.specs.declared.fault.PathFault.TheVariants.{Memory};
 ghost use Rattle.sc_path.specs.Fronts.{Bounded, Stands};
+ghost use Rattle.sc_path.specs.Rows.{HaveWeights};
 ghost use Rattle.sc_path.specs.Powers.{AreTurns, WhyPower, WhyTurn, WhyTwice, WhyTurns, IsRange, params_at};
 ghost use Rattle.sc_path.specs.Tables.{IsTable};
 
@@ -20,6 +21,7 @@ impl Table {
         requires rows { 1 ≤ length self.now.rows }
         requires few { length self.now.rows ≤ 65537 }
         ensures size { IfOk result (λ table. length table.rows ≡ length self.now.rows) }
+        ensures weights { IfOk result (λ table. All HaveWeights table.rows) }
         ensures turns { IfOk result (λ table. (q : ℕ) (turns : ℕ → List Timed) → AreTurns q (length self.now.rows - 1) turns →
             IsTable (turns 1) q (length self.now.rows - 1) self.now.rows → IsTable (turns n) q (length self.now.rows - 1) table.rows) }
         ensures fits { OnOk result ((q : ℕ) (turns : ℕ → List Timed) → AreTurns q (length self.now.rows - 1) turns →
@@ -176,6 +178,7 @@ fn finished(alloc: Global, front: &Front, wires: &[u32]) -> Result<Table, PathFa
     requires lasts { length front.now.last.items ≡ length wires.now + 1 }
     requires bounded { Bounded front.now.rows.items (length front.now.last.items) }
     ensures size { IfOk result (λ table. length table.rows ≡ length wires.now + 1) }
+    ensures weights { IfOk result (λ table. All HaveWeights table.rows) }
     ensures table { IfOk result (λ table. (q n : ℕ) (turns : ℕ → List Timed) → AreTurns q (length wires.now) turns → Stands (turns n) (params_at q) front.now.rows.items front.now.last.items → IsTable (turns n) q (length wires.now) table.rows) }
     ensures err { IfErr result (λ fault. fault ≡ Memory) }
 {

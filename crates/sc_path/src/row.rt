@@ -1,8 +1,8 @@
 //! Rows of a path table: for each start the greatest weight.
-ghost use Rattle.std.specs.Prelude.{◌≡◌, ◌↔◌, ℕ, ◌+◌, ◌<◌, ◌≤◌, [], ◌∷◌, ◌++◌, drop, length, IfOk, IfErr, OnOk, IsTrue, Option};
+ghost use Rattle.std.specs.Prelude.{◌≡◌, ◌↔◌, ℕ, ◌+◌, ◌<◌, ◌≤◌, ◌⊎◌, [], ◌∷◌, ◌++◌, drop, length, IfOk, IfErr, OnOk, IsTrue, Option};
 ghost use Rattle.sc_gate.specs.Chains.{more};
 ghost use Rattle.sc_path.specs.declared.fault.PathFault.TheVariants.{Memory};
-ghost use Rattle.sc_path.specs.Rows.{look, both, same_start, WhyHeavy};
+ghost use Rattle.sc_path.specs.Rows.{look, both, same_start, place, Ascends, AreBefore, AreAfter, StartsIn, WhyHeavy};
 
 use crate::PathFault;
 use smallvec::SmallVec;
@@ -26,10 +26,13 @@ pub struct Row {
 impl Model for Row {
     ghost use Rattle.std.specs.Prelude.{List};
     ghost use Rattle.sc_path.specs.declared.row.Entry.{Entry};
+    ghost use Rattle.sc_path.specs.Rows.{Ascends};
 
     ghost Value = { List Entry };
 
     ghost view = { λ r. r.entries.items };
+
+    ghost invariant = { λ r. Ascends r.entries.items };
 }
 
 impl Row {
@@ -42,6 +45,7 @@ impl Row {
     }
 
     pub(crate) fn from_slice(alloc: Global, entries: &[Entry]) -> Result<Row, PathFault>
+        requires { Ascends entries.now }
         ensures same { IfOk result (λ row. row ≡ entries.now) }
         ensures err { IfErr result (λ fault. fault ≡ Memory) }
     {
@@ -53,12 +57,14 @@ impl Row {
 
     /// The entries, in the order of their starts.
     pub fn as_slice(&self) -> &[Entry]
-        ensures { result.now ≡ self.now }
+        ensures entries { result.now ≡ self.now }
+        ensures ascends { Ascends result.now }
     {
         self.entries.as_slice()
     }
 
     pub(crate) fn push(&mut self, entry: Entry) -> Result<(), PathFault>
+        requires { AreBefore (place entry.start) self.old }
         ensures ok { OnOk result (self.new ≡ self.old ++ entry ∷ []) }
         ensures err { IfErr result (λ fault. fault ≡ Memory) }
     {
@@ -92,7 +98,9 @@ fn heavier(entry: Entry, by: u128) -> Result<Entry, PathFault>
 }
 
 /// Whether a start stands before another: anywhere first, then the parameter wires ascending.
-fn precedes(a: Option<u32>, b: Option<u32>) -> bool {
+fn precedes(a: Option<u32>, b: Option<u32>) -> bool
+    ensures { IsTrue result ↔ (place a < place b) }
+{
     match (a, b) {
         (None, Some(_)) => true,
         (Some(a), Some(b)) => a < b,
@@ -108,12 +116,16 @@ pub fn is_same(a: Option<u32>, b: Option<u32>) -> bool
 
 /// The next entry of two rows, from i and j on.
 fn take_next(a: &[Entry], i: usize, b: &[Entry], j: usize, by: u128) -> Result<Taken, PathFault>
+    requires first { Ascends a.now }
+    requires second { Ascends b.now }
     requires in_a { i ≤ length a.now }
     requires in_b { j ≤ length b.now }
     requires more_left { i + j < length a.now + length b.now }
     ensures in_a { IfOk result (λ t. t.i ≤ length a.now) }
     ensures in_b { IfOk result (λ t. t.j ≤ length b.now) }
     ensures further { IfOk result (λ t. i + j < t.i + t.j) }
+    ensures start { IfOk result (λ t. StartsIn (drop i a.now) t.entry.start ⊎ StartsIn (drop j b.now) t.entry.start) }
+    ensures later { IfOk result (λ t. AreAfter (place t.entry.start) (drop t.i a.now) × AreAfter (place t.entry.start) (drop t.j b.now)) }
     ensures sums { IfOk result (λ t. (s : Option ℕ) → both (drop i a.now) (drop j b.now) by s ≡ more (look (t.entry ∷ []) s) (both (drop t.i a.now) (drop t.j b.now) by s)) }
     ensures err { IfErr result (WhyHeavy b.now by) }
 {
@@ -148,6 +160,8 @@ fn take_next(a: &[Entry], i: usize, b: &[Entry], j: usize, by: u128) -> Result<T
 
 /// The entries of `a`, and those of `b` with `by` added; the heavier one where both have a start.
 pub fn merge(alloc: Global, a: &[Entry], b: &[Entry], by: u128) -> Result<Row, PathFault>
+    requires first { Ascends a.now }
+    requires second { Ascends b.now }
     ensures sums { IfOk result (λ row. (s : Option ℕ) → look row s ≡ both a.now b.now by s) }
     ensures err { IfErr result (WhyHeavy b.now by) }
 {

@@ -2,7 +2,7 @@
 ghost use Rattle.std.specs.Prelude.{◌≡◌, ℕ, ◌+◌, ◌<◌, ◌≤◌, List, [], ◌∷◌, length, replicate, All, slice_index, IfOk, IfErr, OnOk, Option, None, Some};
 ghost use Rattle.sc_gate.specs.Chains.{more};
 ghost use Rattle.sc_path.specs.declared.fault.PathFault.TheVariants.{Memory};
-ghost use Rattle.sc_path.specs.Rows.{look, row_at, place};
+ghost use Rattle.sc_path.specs.Rows.{look, row_at, place, Ascends, AreBefore, HaveWeights};
 ghost use Rattle.sc_path.specs.Ends.{begin, start_in, positive, number_at, start_of};
 
 use crate::front::{Front, entries_of};
@@ -49,6 +49,7 @@ impl Front {
         requires few { length self.now.last.items ≤ 65537 }
         ensures size { IfOk result (λ table. length table.rows ≡ length wires.now + 1) }
         ensures rows { IfOk result (λ table. (j : ℕ) (s : Option ℕ) → j < length wires.now → look (row_at table.rows j) s ≡ positive (look (row_at self.now.rows.items (slice_index wires.now j)) s)) }
+        ensures weights { IfOk result (λ table. All HaveWeights table.rows) }
         ensures last { IfOk result (λ table. (s : Option ℕ) → look (row_at table.rows (length wires.now)) s ≡ positive (number_at self.now.last.items (place s))) }
         ensures err { IfErr result (λ fault. fault ≡ Memory) }
     {
@@ -124,6 +125,7 @@ fn start_row(alloc: Global, start: Option<u32>) -> Result<Row, PathFault>
 fn kept_rows(alloc: Global, rows: &[Row], wires: &[u32]) -> Result<List<Row>, PathFault>
     requires below { All (λ w. w < length rows.now) wires.now }
     ensures len { IfOk result (λ r. length r ≡ length wires.now) }
+    ensures weights { IfOk result (λ r. All HaveWeights r) }
     ensures rows { IfOk result (λ r. (j : ℕ) (s : Option ℕ) → j < length wires.now → look (row_at r j) s ≡ positive (look (row_at rows.now (slice_index wires.now j)) s)) }
     ensures err { IfErr result (λ fault. fault ≡ Memory) }
 {
@@ -142,6 +144,8 @@ fn kept_rows(alloc: Global, rows: &[Row], wires: &[u32]) -> Result<List<Row>, Pa
 
 /// The entries that have a weight.
 fn kept(alloc: Global, row: &[Entry]) -> Result<Row, PathFault>
+    requires { Ascends row.now }
+    ensures weights { IfOk result HaveWeights }
     ensures kept { IfOk result (λ r. (s : Option ℕ) → look r s ≡ positive (look row.now s)) }
     ensures err { IfErr result (λ fault. fault ≡ Memory) }
 {
@@ -158,6 +162,7 @@ fn kept(alloc: Global, row: &[Entry]) -> Result<Row, PathFault>
 /// An entry for each number above 0, by its place.
 fn last_row(alloc: Global, last: &[u128]) -> Result<Row, PathFault>
     requires few { length last.now ≤ 65537 }
+    ensures weights { IfOk result HaveWeights }
     ensures numbers { IfOk result (λ r. (s : Option ℕ) → look r s ≡ positive (number_at last.now (place s))) }
     ensures err { IfErr result (λ fault. fault ≡ Memory) }
 {
@@ -177,6 +182,9 @@ fn last_row(alloc: Global, last: &[u128]) -> Result<Row, PathFault>
 
 /// Puts the entry behind the others, where it has a weight.
 fn push_kept(out: &mut Row, entry: Entry) -> Result<(), PathFault>
+    requires { AreBefore (place entry.start) out.old }
+    ensures before { OnOk result ((p : ℕ) → place entry.start < p → AreBefore p out.old → AreBefore p out.new) }
+    ensures weights { OnOk result (HaveWeights out.old → HaveWeights out.new) }
     ensures kept { OnOk result ((s : Option ℕ) → look out.new s ≡ more (look out.old s) (positive (look (entry ∷ []) s))) }
     ensures err { IfErr result (λ fault. fault ≡ Memory) }
 {

@@ -9,7 +9,7 @@ use crate::{Entry, Row};
 use sc_base::List;
 
 /// The path table of an instance: one row for each of its parameter wires, for the chains that end there, qubits first and then
-/// classical bits, and one last row for the chains that end anywhere.
+/// classical bits, and one last row for the chains that end anywhere. No entry has the weight 0.
 #[derive(Debug, Drop)]
 pub struct Table {
     pub rows: List<Row>,

@@ -1,5 +1,4 @@
-use Rattle.std.proofs.Common.{◌≡◌, ℕ, ◌+◌, List, length, ap, ◌∙◌, subst, arith}
-use Rattle.sc_path.specs.Places.{rows_for}
+use Rattle.std.proofs.Common.{◌≡◌, ℕ, List, length, ap, ◌∙◌, subst, arith}
 use Rattle.sc_path.proofs.Gate.{on_ok}
 use Rattle.sc_path.proofs.PlaceLemmas.{rows_many}
 use Rattle.sc_path.proofs.TurnLemmas.{Called}

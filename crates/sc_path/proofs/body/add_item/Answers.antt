@@ -1,7 +1,6 @@
-use Rattle.std.proofs.Common.{◌≡◌, ℕ, ◌+◌, ◌-◌, ◌<◌, ◌≤◌, List, All, length, get_or, refl, sym, ap, ◌∙◌, subst, arith}
+use Rattle.std.proofs.Common.{ℕ, ◌+◌, ◌-◌, ◌<◌, List, All, length, refl, sym, ap, ◌∙◌, subst, arith}
 use Rattle.sc_gate.specs.Gates.{operands}
 use Rattle.sc_gate.specs.declared.gate.Wire.{Wire}
-use Rattle.sc_deck.specs.declared.item.Item.{Item}
 use Rattle.sc_deck.specs.declared.item.Item.TheVariants as item
 use Rattle.sc_deck.specs.Bodies.{wires_of}
 use Rattle.sc_gate.specs.Chains.{Timed}

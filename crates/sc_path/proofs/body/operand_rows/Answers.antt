@@ -1,8 +1,8 @@
-use Rattle.std.proofs.Common.{ℕ, ◌+◌, ◌<◌, ◌++◌, ◌∷◌, List, Some, map, ap, ◌∙◌}
+use Rattle.std.proofs.Common.{ℕ, ◌+◌, ◌<◌, ◌++◌, List, Some, map, ap, ◌∙◌}
 use Rattle.std.specs.Prelude.{option_to_list}
 use Rattle.sc_gate.specs.declared.gate.Wire.{Wire}
 use Rattle.sc_path.specs.Places.{row_number}
-use Rattle.sc_path.proofs.RowLists.{all_first, all_front, all_back, all_rest, three_rows}
+use Rattle.sc_path.proofs.RowLists.{all_front, all_back, all_rest, three_rows}
 use Rattle.sc_path.proofs.body.operand_rows.Goals as goal
 
 pub push_row-requires-2 : goal.push_row-requires-2

@@ -1,7 +1,4 @@
-use Rattle.std.proofs.Common.{ℕ, List}
-use Rattle.sc_path.specs.declared.table.Table.{Table}
 use Rattle.sc_deck.specs.Bodies.{wires_of}
-use Rattle.sc_deck.specs.Modules.{Module}
 use Rattle.sc_deck.specs.Unfolding.{unfoldings}
 use Rattle.sc_path.proofs.BodyRows.{Blank, blank_at, stands_blank, bounded_blank}
 use Rattle.sc_path.proofs.body.start_of.Goals as goal

@@ -1,7 +1,7 @@
-use Rattle.std.proofs.Common.{◌≡◌, ℕ, ◌+◌, ◌<◌, ◌≤◌, List, All, length, sym, ap, ◌∙◌, subst, arith}
+use Rattle.std.proofs.Common.{ℕ, ◌+◌, ◌<◌, ◌≤◌, All, length, sym, ap, ◌∙◌, subst, arith}
 use Rattle.sc_deck.specs.Bodies.{wires_of}
 use Rattle.sc_gate.specs.Numbers.{both}
-use Rattle.sc_path.proofs.BodyTable.{body_table, end_rows, ends_below, ends_many, ends_same, params_low}
+use Rattle.sc_path.proofs.BodyTable.{body_table, ends_below, ends_many, ends_same, params_low}
 use Rattle.sc_path.proofs.body.table_of.Goals as goal
 
 pub start_of-requires-clause-params : goal.start_of-requires-clause-params

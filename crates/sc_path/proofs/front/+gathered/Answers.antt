@@ -1,4 +1,4 @@
-use Rattle.std.proofs.Common.{◌≡◌, ℕ, List, Option, length, ap, ◌∙◌, subst, take, drop}
+use Rattle.std.proofs.Common.{◌≡◌, ℕ, List, Option, length, ap, ◌∙◌, subst, drop}
 use Rattle.std.specs.Prelude.{◌/◌}
 use Rattle.sc_path.specs.declared.row.Entry.{Entry}
 use Rattle.sc_path.specs.Rows.{look, both, WhyHeavy}
@@ -22,7 +22,7 @@ returns-clause-sums t c =
     (λ row. (s : Option ℕ) → look row s ≡ called (λ x. source c.args.rows.now c.args.wires.now x s) c.args.callee.now)
     c.merge.ensures.sums
     (λ row m. gathered_is (source c.args.rows.now c.args.wires.now) (length c.args.callee.now / 2) c.args.callee.now c.as_slice.result.now c.as_slice-2.result.now c.in-Ok.first c.in-Ok-gathered.second row
-    c.as_slice.ensures c.as_slice-2.ensures
+    c.as_slice.ensures.entries c.as_slice-2.ensures.entries
     (λ s. c.in-Ok.ensures.sums s ∙ ap (called (λ x. source c.args.rows.now c.args.wires.now x s)) c.split_at.ensures.front)
     (λ s. c.in-Ok-gathered.ensures.sums s ∙ ap (called (λ x. source c.args.rows.now c.args.wires.now x s)) c.split_at.ensures.back) m)
 
@@ -30,5 +30,5 @@ pub returns-clause-err : goal.returns-clause-err
 returns-clause-err t c =
     if_err c.merge.result (WhyHeavy c.as_slice-2.result.now 0) (WhyCalled c.args.rows.now c.args.wires.now c.args.callee.now) c.merge.ensures.err
     (λ fault w. why_high c.args.rows.now c.args.wires.now (length c.args.callee.now / 2) c.args.callee.now fault
-    (why_made c.args.rows.now c.args.wires.now (drop (length c.args.callee.now / 2) c.args.callee.now) c.as_slice-2.result.now c.in-Ok-gathered.second fault c.as_slice-2.ensures
+    (why_made c.args.rows.now c.args.wires.now (drop (length c.args.callee.now / 2) c.args.callee.now) c.as_slice-2.result.now c.in-Ok-gathered.second fault c.as_slice-2.ensures.entries
     (λ s. c.in-Ok-gathered.ensures.sums s ∙ ap (called (λ x. source c.args.rows.now c.args.wires.now x s)) c.split_at.ensures.back) w))

@@ -1,4 +1,4 @@
-use Rattle.std.proofs.Common.{◌≡◌, ℕ, ◌+◌, ◌<◌, ◌≤◌, List, length, arith, ap, ◌∙◌, sym, subst}
+use Rattle.std.proofs.Common.{◌≡◌, ℕ, ◌<◌, ◌≤◌, List, length, arith, ap, ◌∙◌, subst}
 use Rattle.std.specs.Prelude.{slice_index, max}
 use Rattle.std.specs.Vec.{with_items}
 use Rattle.sc_gate.specs.Chains.{or_zero}
@@ -21,13 +21,13 @@ returns-in-Err-gathered-clause-err c =
     let many = c.requires.many in
     let h : length c.args.wires.now < length c.args.table.now = omega arith in
     why_no_call c.args.front.now.rows.items c.args.front.now.last.items c.args.wires.now c.args.table.now c.in-Err-gathered.fault c.requires.below c.requires.bounded c.requires.starts
-    (why_row c.args.front.now.rows.items c.args.wires.now c.args.table.now (length c.args.wires.now) c.entries_of.result.now c.in-Err-gathered.fault h c.entries_of.ensures
+    (why_row c.args.front.now.rows.items c.args.wires.now c.args.table.now (length c.args.wires.now) c.entries_of.result.now c.in-Err-gathered.fault h c.entries_of.ensures.row
     (subst (λ (r : List (List Entry)). WhyCalled r c.args.wires.now c.entries_of.result.now c.in-Err-gathered.fault) c.deref-2.ensures.value c.in-Err-gathered.ensures.err))
 
 pub raise-requires : goal.raise-requires
 raise-requires c = all_below c.as_slice.result.now (length c.deref_mut.result.now) (λ s h.
     let l : length c.args.front.now.last.items ≤ place s = omega (arith, ap length c.deref_mut.ensures.value) in
-    ap (λ (x : List Entry). look x s) c.as_slice.ensures ∙ c.in-Ok-gathered.ensures.sums s ∙ ap (λ (r : List (List Entry)). called (λ t. source r c.args.wires.now t s) c.entries_of.result.now) c.deref-2.ensures.value
+    ap (λ (x : List Entry). look x s) c.as_slice.ensures.entries ∙ c.in-Ok-gathered.ensures.sums s ∙ ap (λ (r : List (List Entry)). called (λ t. source r c.args.wires.now t s) c.entries_of.result.now) c.deref-2.ensures.value
     ∙ called_past c.args.front.now.rows.items (length c.args.front.now.last.items) c.args.wires.now c.entries_of.result.now s c.requires.bounded c.requires.starts l)
 
 pub returns-clause-rows : goal.returns-clause-rows
@@ -62,9 +62,9 @@ returns-clause-stands c = λ gates callee q sites.
     (λ w. ap (λ (r : List (List Entry)). row_at r w) ir ∙ c.put_rows.ensures.put w ∙ ap (λ (r : List (List Entry)). put_each r c.args.wires.now c.in-Ok.rows.items w) c.deref_mut-2.ensures.value)
     (λ j s k. c.in-Ok.ensures.rows j s k ∙ ap (λ (r : List (List Entry)). row_after r c.args.wires.now c.args.table.now j s) c.deref.ensures.value)
     (λ s. c.in-Ok-gathered.ensures.sums s ∙ ap (λ (r : List (List Entry)). called (λ t. source r c.args.wires.now t s) c.entries_of.result.now) c.deref-2.ensures.value
-    ∙ ap (called (λ t. source c.args.front.now.rows.items c.args.wires.now t s)) c.entries_of.ensures)
+    ∙ ap (called (λ t. source c.args.front.now.rows.items c.args.wires.now t s)) c.entries_of.ensures.row)
     (λ s k.
     let k' : place s < length c.deref_mut.result.now = omega (arith, ap length c.deref_mut.ensures.value) in
     ap (λ (l : List ℕ). slice_index l (place s)) il ∙ c.raise.ensures.raised s k'
     ∙ ap (λ (l : List ℕ). max (slice_index l (place s)) (or_zero (look c.as_slice.result.now s))) c.deref_mut.ensures.value
-    ∙ ap (λ (x : List Entry). max (slice_index c.args.front.now.last.items (place s)) (or_zero (look x s))) c.as_slice.ensures)
+    ∙ ap (λ (x : List Entry). max (slice_index c.args.front.now.last.items (place s)) (or_zero (look x s))) c.as_slice.ensures.entries)

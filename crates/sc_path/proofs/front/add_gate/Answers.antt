@@ -20,7 +20,7 @@ pub raise-requires : goal.raise-requires
 raise-requires c = all_below c.as_slice.result.now (length c.deref_mut.result.now) (λ s h.
     let e : look c.in-Ok.row s ≡ through c.args.front.now.rows.items c.args.weight c.args.wires.now s = c.in-Ok.ensures.sums s ∙ ap (λ (r : List (List Entry)). through r c.args.weight c.args.wires.now s) c.deref.ensures.value in
     let l : length c.args.front.now.last.items ≤ place s = omega (arith, ap length c.deref_mut.ensures.value) in
-    ap (λ (x : List Entry). look x s) c.as_slice.ensures ∙ e ∙ through_none c.args.front.now.rows.items (length c.args.front.now.last.items) c.args.weight c.args.wires.now s c.requires.bounded l)
+    ap (λ (x : List Entry). look x s) c.as_slice.ensures.entries ∙ e ∙ through_none c.args.front.now.rows.items (length c.args.front.now.last.items) c.args.weight c.args.wires.now s c.requires.bounded l)
 
 pub returns-clause-rows : goal.returns-clause-rows
 returns-clause-rows c =
@@ -59,7 +59,7 @@ returns-clause-stands c =
     let k' : place s < length c.deref_mut.result.now = omega (arith, ap length c.deref_mut.ensures.value) in
     ap (λ (l : List ℕ). slice_index l (place s)) il ∙ c.raise.ensures.raised s k'
     ∙ ap (λ (l : List ℕ). max (slice_index l (place s)) (or_zero (look c.as_slice.result.now s))) c.deref_mut.ensures.value
-    ∙ ap (λ (x : List Entry). max (slice_index c.args.front.now.last.items (place s)) (or_zero (look x s))) c.as_slice.ensures))
+    ∙ ap (λ (x : List Entry). max (slice_index c.args.front.now.last.items (place s)) (or_zero (look x s))) c.as_slice.ensures.entries))
 
 pub returns-clause-err : goal.returns-clause-err
 returns-clause-err c =

@@ -1,4 +1,4 @@
-use Rattle.std.proofs.Common.{◌≡◌, ℕ, ◌-◌, ◌<◌, List, length, get_or, take, arith, ap, ◌∙◌}
+use Rattle.std.proofs.Common.{ℕ, ◌-◌, ◌<◌, List, length, get_or, take, arith, ap, ◌∙◌}
 use Rattle.std.proofs.lemmas.List.Elements.{All-get_or}
 use Rattle.sc_path.specs.declared.row.Entry.{Entry}
 use Rattle.sc_path.specs.Fronts.{put_at}
@@ -12,4 +12,4 @@ returns-clause-put c = λ w s.
     let b : get_or c.args.wires.now (length c.args.wires.now - 1) 0 < length c.put_copies.new.rows = omega (arith, l, c.put_copies.ensures.len) in
     put_last c.args.rows.now c.put_copies.new.rows c.args.wires.now c.args.row w s c.requires.some b
     (c.in-Ok.ensures.put w s ∙ ap (λ (vs : List ℕ). put_at c.args.rows.now vs c.as_slice.result.now w s) c.split_at.ensures.front
-    ∙ ap (λ (r : List Entry). put_at c.args.rows.now (take (length c.args.wires.now - 1) c.args.wires.now) r w s) c.as_slice.ensures)
+    ∙ ap (λ (r : List Entry). put_at c.args.rows.now (take (length c.args.wires.now - 1) c.args.wires.now) r w s) c.as_slice.ensures.entries)

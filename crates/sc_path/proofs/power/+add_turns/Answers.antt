@@ -1,6 +1,5 @@
-use Rattle.std.proofs.Common.{◌≡◌, ℕ, ◌+◌, ◌*◌, ◌/◌, ◌%◌, ◌<◌, List, length, ap, sym, ◌∙◌, subst, arith}
-use Rattle.sc_path.specs.Fronts.{Stands}
-use Rattle.sc_path.specs.Powers.{params_at, WhyTurns}
+use Rattle.std.proofs.Common.{◌+◌, ◌*◌, ◌/◌, ◌%◌, length, sym, subst, arith}
+use Rattle.sc_path.specs.Powers.{WhyTurns}
 use Rattle.sc_path.specs.Tables.{IsTable}
 use Rattle.sc_path.proofs.CallCode.{if_err}
 use Rattle.sc_path.proofs.Gate.{on_ok}

@@ -1,4 +1,4 @@
-use Rattle.std.proofs.Common.{◌≡◌, ℕ, length, ◌∙◌, subst, arith}
+use Rattle.std.proofs.Common.{length, ◌∙◌, arith}
 use Rattle.sc_path.specs.Fronts.{WhyNoCall}
 use Rattle.sc_path.specs.Powers.{WhyTurn}
 use Rattle.sc_path.proofs.CallCode.{if_err}

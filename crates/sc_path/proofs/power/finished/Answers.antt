@@ -1,4 +1,4 @@
-use Rattle.std.proofs.Common.{◌≡◌, ℕ, length, arith}
+use Rattle.std.proofs.Common.{length, arith}
 use Rattle.sc_path.proofs.TurnLemmas.{turns_table, in_range}
 use Rattle.sc_path.proofs.power.finished.Goals as goal
 

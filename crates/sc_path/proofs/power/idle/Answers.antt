@@ -1,4 +1,4 @@
-use Rattle.std.proofs.Common.{◌≡◌, ℕ, ◌+◌, ◌<◌, length, arith, ap, ◌∙◌}
+use Rattle.std.proofs.Common.{◌≡◌, length, arith}
 use Rattle.sc_path.proofs.PowerLemmas.{bounded_idle, last_size}
 use Rattle.sc_path.proofs.TurnLemmas.{stands_none}
 use Rattle.sc_path.proofs.power.idle.Goals as goal

@@ -1,4 +1,4 @@
-use Rattle.std.proofs.Common.{◌≡◌, ℕ, ◌+◌, List, [], ◌∷◌, ◌++◌, length, ap, sym, ◌∙◌, subst, rules, length-append}
+use Rattle.std.proofs.Common.{◌≡◌, ℕ, ◌+◌, [], ◌∷◌, ◌++◌, length, ap, sym, ◌∙◌, subst, rules, length-append}
 use Rattle.sc_path.specs.Powers.{IsRange}
 use Rattle.sc_path.proofs.PowerLemmas.{range_more}
 use Rattle.sc_path.proofs.power.numbers.Goals as goal

@@ -1,4 +1,4 @@
-use Rattle.std.proofs.Common.{◌≡◌, ℕ, ◌+◌, List, [], ◌∷◌, ◌++◌, length, sym, subst, rules}
+use Rattle.std.proofs.Common.{◌≡◌, List, [], ◌∷◌, ◌++◌, length, sym, subst, rules}
 use Rattle.std.specs.Prelude.{unwrap_or}
 use Rattle.sc_gate.specs.Numbers.{both}
 use Rattle.sc_deck.specs.Keys.{params_of}
@@ -8,7 +8,7 @@ use Rattle.sc_path.proofs.BodyTable.{stands_more_tables, critical_fits}
 use Rattle.sc_path.proofs.paths.Paths.add.Goals as goal
 
 pub returns-in-Ok-push-clause-ok : goal.returns-in-Ok-push-clause-ok
-returns-in-Ok-push-clause-ok c = record { table = c.in-Ok.table; appended = c.in-Ok-push.ensures.ok; size = c.in-Ok.ensures.size }
+returns-in-Ok-push-clause-ok c = record { table = c.in-Ok.table; appended = c.in-Ok-push.ensures.ok; size = c.in-Ok.ensures.size; weights = c.in-Ok.ensures.weights }
 
 pub returns-in-Ok-push-clause-stands : goal.returns-in-Ok-push-clause-stands
 returns-in-Ok-push-clause-stands c = λ modules key ext sf.
