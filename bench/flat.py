@@ -2,9 +2,10 @@
 """Times `prepare` and `Expander::write` over ten million gates, into a sink that counts bytes.
 
 usage: bench/flat.py
-Builds three programs on copies of the crates below sc_flat, in a folder that it drops again, and prints the least seconds
+Builds four programs on copies of the crates below sc_flat, in a folder that it drops again, and prints the least seconds
 of processor time of three runs and the peak memory of each. The first deck calls a body of four gates and one fresh qubit
-2,500,000 times; the second calls a body of one gate ten million times; the third has no gate and shows what a program takes.
+2,500,000 times; the second calls a body of one gate ten million times; the third calls a body of 65,000 fresh qubits and
+one gate 60,000 times; the last has no gate and shows what a program takes.
 """
 import os, shutil, subprocess, tempfile
 from pathlib import Path
@@ -125,8 +126,9 @@ fn main(rt: HostRuntime) -> ExitCode {
 FOUR = ('Item.Fresh Class.Q 1 ∷ Item.Gates (h 1) 3 ∷ Item.Gate (cnot 1 0) ∷ []',
         '    body.push_fresh(Class::Q, 1)?;\n    body.push_gates(hadamard(1), 3)?;\n    body.push_gate(controlled_not(1, 0))?;')
 ONE = ('Item.Gate (h 0) ∷ []', '    body.push_gate(hadamard(0))?;')
+WIDE = ('Item.Fresh Class.Q 65000 ∷ Item.Gate (h 1) ∷ []', '    body.push_fresh(Class::Q, 65000)?;\n    body.push_gate(hadamard(1))?;')
 NONE = ('[]', '')
-DECKS = {'calls': (FOUR, 2_500_000), 'turns': (ONE, 10_000_000), 'nothing': (NONE, 10_000_000)}
+DECKS = {'calls': (FOUR, 2_500_000), 'turns': (ONE, 10_000_000), 'wide': (WIDE, 60_000), 'nothing': (NONE, 10_000_000)}
 
 
 def header(qubits, gates):
@@ -139,6 +141,8 @@ def expected(name):
         return len(header(1, 0))
     if name == 'turns':
         return len(header(1, 10_000_000)) + 10_000_000 * len('H q0\n')
+    if name == 'wide':
+        return len(header(3_900_000_001, 60_000)) + sum(len(f'H q{1 + 65000 * i}\n') for i in range(60_000))
     lines = sum(3 * len(f'H q{i}\n') + len(f'CNOT q{i},q0\n') for i in range(1, 2_500_001))
     return len(header(2_500_001, 10_000_000)) + lines
 

@@ -128,4 +128,5 @@ def main():
                 print(f'{name} {path.stat().st_size} bytes: status {status}, {busy:.2f} s of processor time, {took:.2f} s, peak {peak} MiB', flush=True)
 
 
-main()
+if __name__ == '__main__':
+    main()

@@ -1,7 +1,7 @@
 -- What each kind of item asks for, and what a step over it gives.
-use Rattle.std.proofs.Common.{◌≡◌, ℕ, zero, suc, ◌+◌, ◌-◌, ◌*◌, ◌<◌, ◌≤◌, ◌^◌, ◌⊎◌, inl, inr, List, [], ◌∷◌, ◌++◌, map, drop, take, get_or, length, Option, Some, None, refl, sym, ap, subst, ◌∙◌, arith, rules}
+use Rattle.std.proofs.Common.{◌≡◌, ℕ, zero, suc, ◌+◌, ◌-◌, ◌*◌, ◌<◌, ◌≤◌, ◌^◌, ◌⊎◌, inl, inr, List, [], ◌++◌, map, take, get_or, length, Option, Some, None, refl, sym, ap, subst, ◌∙◌, arith, rules}
 use denote.Bor.{Bor}
-use Rattle.std.specs.Prelude.{slice_get, slice_index}
+use Rattle.std.specs.Prelude.{slice_get}
 use Rattle.std.specs.Option.{option_map, option_copied, IsSome}
 use Rattle.std.proofs.lemmas.Bool.{cases_lt}
 use Rattle.std.proofs.lemmas.List.{length-append, length-map}
@@ -9,17 +9,17 @@ use Rattle.sc_base.specs.declared.names.Class.{Class}
 use Rattle.sc_base.specs.declared.names.Class.TheVariants.{Q, C}
 use Rattle.sc_gate.specs.declared.gate.Wire.{Wire}
 use Rattle.sc_gate.specs.declared.gate.Gate.{Gate}
-use Rattle.sc_gate.specs.Gates.{class_of, operands}
+use Rattle.sc_gate.specs.Gates.{class_of}
 use Rattle.sc_gate.specs.Numbers.{Numbers, both, number_of, with_more, AreThere}
 use Rattle.sc_gate.specs.Renaming.{rename_gate}
 use Rattle.sc_deck.specs.declared.item.Item.{Item}
 use Rattle.sc_deck.specs.declared.item.Item.TheVariants as item
-use Rattle.sc_deck.specs.Bodies.{Contents, after_items, wires_of}
+use Rattle.sc_deck.specs.Bodies.{Contents, after_items}
 use Rattle.sc_deck.specs.Decks.{IsDeck}
-use Rattle.sc_deck.specs.Events.{Event, Enter, Return, after_events, gates_in}
+use Rattle.sc_deck.specs.Events.{after_events, gates_in}
 use Rattle.sc_deck.specs.Items.{ItemFits, after_item, callee_of}
 use Rattle.sc_deck.specs.Keys.{params_of, param_classes}
-use Rattle.sc_deck.specs.Modules.{Module, body_of, reaches_of}
+use Rattle.sc_deck.specs.Modules.{Module, body_of}
 use Rattle.sc_deck.specs.Placing.{Sized}
 use Rattle.sc_deck.specs.Renaming.{wire}
 use Rattle.sc_deck.specs.Turns.{turns_of}
@@ -28,12 +28,12 @@ use Rattle.sc_deck.proofs.CallLaws.{CallEarlier-at}
 use Rattle.sc_deck.proofs.EarlierLaws.{unfold_on-at}
 use Rattle.sc_deck.proofs.PlaceLaws.{placed-classes}
 use Rattle.sc_deck.proofs.SequenceLaws.{after_events-append}
-use Rattle.sc_deck.proofs.WireLaws.{after_events-grow, more_of}
+use Rattle.sc_deck.proofs.WireLaws.{after_events-grow}
 use Rattle.sc_flat.specs.declared.size.Size.{Size}
 use Rattle.sc_flat.specs.declared.step.Step.{Step}
 use Rattle.sc_flat.specs.declared.step.Step.TheVariants as step
 use Rattle.sc_flat.specs.declared.walk.Walk.{Walk}
-use Rattle.sc_flat.specs.Frames.{lengths, wires_in, held_wires}
+use Rattle.sc_flat.specs.Frames.{lengths, held_wires}
 use Rattle.sc_flat.specs.Kept.{IsSizeOf, AreSizes, WalkKept}
 use Rattle.sc_flat.specs.Steps.{Went, Stepped, Leaves}
 use Rattle.sc_flat.specs.Walks.{numbers, rest, places_of, own_qubits, own_cbits, with_turn, with_fresh, without_turns, inside}

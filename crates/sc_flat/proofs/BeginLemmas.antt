@@ -1,23 +1,22 @@
 -- A walk at the front of a whole deck.
-use Rattle.std.proofs.Common.{◌≡◌, ℕ, ◌+◌, ◌-◌, ◌<◌, ◌≤◌, ◌^◌, List, [], ◌∷◌, ◌++◌, length, get_or, Option, Some, None, refl, sym, ap, subst, ◌∙◌, arith}
+use Rattle.std.proofs.Common.{◌≡◌, ℕ, ◌-◌, ◌<◌, ◌≤◌, ◌^◌, List, [], ◌∷◌, length, get_or, Option, Some, None, refl, sym, ap, subst, ◌∙◌, arith}
 use Rattle.std.specs.Prelude.{slice_get, slice_index}
-use Rattle.std.specs.Option.{option_map, option_map_or}
+use Rattle.std.specs.Option.{option_map}
 use Rattle.std.proofs.lemmas.Option.{slice_get_within}
-use Rattle.sc_gate.specs.declared.gate.Wire.{Wire}
 use Rattle.sc_gate.specs.Lines.{flat_header}
 use Rattle.sc_gate.specs.Numbers.{Numbers, no_wires}
 use Rattle.sc_deck.specs.declared.key.Key.{Key}
 use Rattle.sc_deck.specs.Decks.{IsDeck, IsWhole}
-use Rattle.sc_deck.specs.Events.{Event, Enter, Return, after_events, fresh_in, gates_in}
+use Rattle.sc_deck.specs.Events.{Enter, after_events, fresh_in, gates_in}
 use Rattle.sc_deck.specs.Keys.{main_key, params_of, param_classes}
 use Rattle.sc_deck.specs.Modules.{Module, key_of, reaches_of}
-use Rattle.sc_deck.specs.Unfolding.{unfold_items, unfold_on, unfoldings, expansion, gates_of, numbered}
+use Rattle.sc_deck.specs.Unfolding.{unfold_on, unfoldings, expansion, gates_of, numbered}
 use Rattle.sc_deck.proofs.EarlierLaws.{unfold_on-at}
 use Rattle.sc_deck.proofs.PutLaws.{expansion-is}
 use Rattle.sc_flat.specs.declared.walk.Walk.{Walk}
 use Rattle.sc_flat.specs.declared.size.Size.{Size}
 use Rattle.sc_flat.specs.Kept.{WalkKept, IsSizeOf, AreSizes}
-use Rattle.sc_flat.specs.Walks.{rest, numbers, begun}
+use Rattle.sc_flat.specs.Walks.{rest, begun}
 use Rattle.sc_flat.proofs.KeptLemmas.{body_kept}
 use Rattle.sc_flat.proofs.ItemLemmas.{turns_some}
 use Rattle.sc_flat.proofs.GlueLemmas.{get_at}

@@ -1,12 +1,11 @@
 -- The events that are left before and after fresh wires, a call and a return.
-use Rattle.std.proofs.Common.{◌≡◌, ℕ, zero, suc, ◌+◌, ◌-◌, ◌*◌, ◌<◌, ◌≤◌, List, [], ◌∷◌, ◌++◌, map, drop, take, length, Some, refl, sym, ap, ◌∙◌, arith, append_assoc, subst}
+use Rattle.std.proofs.Common.{◌≡◌, ℕ, ◌+◌, ◌≤◌, List, [], ◌∷◌, ◌++◌, map, drop, take, length, Some, refl, sym, ap, ◌∙◌, append_assoc, subst}
 use Rattle.std.specs.Prelude.{slice_get}
 use Rattle.std.specs.Option.{option_map_or}
-use Rattle.std.proofs.lemmas.List.{append-nil, take_at, drop_at, drop_all}
-use Rattle.sc_base.specs.declared.names.Class.{Class}
+use Rattle.std.proofs.lemmas.List.{take_at, drop_at, drop_all}
 use Rattle.sc_base.specs.declared.names.Class.TheVariants.{Q, C}
 use Rattle.sc_gate.specs.declared.gate.Wire.{Wire}
-use Rattle.sc_gate.specs.Numbers.{Numbers, number_of}
+use Rattle.sc_gate.specs.Numbers.{Numbers}
 use Rattle.sc_deck.specs.declared.item.Item.{Item}
 use Rattle.sc_deck.specs.declared.key.Key.{Key}
 use Rattle.sc_deck.specs.Decks.{IsDeck}
@@ -14,14 +13,14 @@ use Rattle.sc_deck.specs.Events.{Event, Enter, Return, after_events}
 use Rattle.sc_deck.specs.Keys.{main_key}
 use Rattle.sc_deck.specs.Modules.{Module, key_of}
 use Rattle.sc_deck.specs.Turns.{turns_of}
-use Rattle.sc_deck.specs.Unfolding.{Unfolding, unfold_items, unfold_on, unfolding_at, unfoldings, placed}
+use Rattle.sc_deck.specs.Unfolding.{Unfolding, unfold_items, unfold_on, unfoldings, placed}
 use Rattle.sc_deck.proofs.SequenceLaws.{after_events-append}
 use Rattle.sc_deck.proofs.EarlierLaws.{unfold_on-at}
 use Rattle.sc_flat.specs.declared.frames.Frame.{Frame}
 use Rattle.sc_flat.specs.declared.walk.Walk.{Walk}
 use Rattle.sc_flat.specs.Frames.{wires_in, numbers_in}
 use Rattle.sc_flat.specs.Walks.{less_turns, less, Open, rest_of, open_of, opens, numbers, rest, places_of, own_qubits, own_cbits, turned, inside, outside}
-use Rattle.sc_flat.proofs.PlaceLemmas.{Same, same_numbered, same_sym}
+use Rattle.sc_flat.proofs.PlaceLemmas.{same_numbered}
 use Rattle.sc_flat.proofs.TurnLemmas.{once, IsStep, items_same, less_none}
 use Rattle.sc_flat.proofs.StepLemmas.{closed, split, Before, outer, rest_in, rest_before, turn_left}
 

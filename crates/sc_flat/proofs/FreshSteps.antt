@@ -1,7 +1,7 @@
 -- The events that are left before and after fresh wires, and before and after a call that is gone over.
-use Rattle.std.proofs.Common.{◌≡◌, ℕ, zero, suc, ◌+◌, ◌-◌, ◌*◌, ◌<◌, ◌≤◌, List, [], ◌∷◌, ◌++◌, map, drop, take, length, Some, refl, sym, ap, ◌∙◌, arith, append_assoc, subst}
-use Rattle.std.specs.Prelude.{slice_get, false}
-use Rattle.std.proofs.lemmas.List.{append-nil, drop-append-le, take-append-le, map-append, length-append, length-map}
+use Rattle.std.proofs.Common.{◌≡◌, ℕ, zero, suc, ◌+◌, ◌-◌, ◌*◌, ◌≤◌, List, [], ◌∷◌, ◌++◌, map, drop, take, length, Some, refl, sym, ap, ◌∙◌, arith}
+use Rattle.std.specs.Prelude.{slice_get}
+use Rattle.std.proofs.lemmas.List.{append-nil, drop-append-le, take-append-le, map-append}
 use Rattle.sc_base.specs.declared.names.Class.{Class}
 use Rattle.sc_base.specs.declared.names.Class.TheVariants.{Q, C}
 use Rattle.sc_gate.specs.declared.gate.Wire.{Wire}
@@ -23,7 +23,7 @@ use Rattle.sc_flat.specs.declared.size.Size.{Size}
 use Rattle.sc_flat.specs.declared.walk.Walk.{Walk}
 use Rattle.sc_flat.specs.Frames.{wires_in, numbers_from}
 use Rattle.sc_flat.specs.Kept.{IsSizeOf}
-use Rattle.sc_flat.specs.Walks.{less_turns, less, Open, rest_of, opens, numbers, rest, places_of, own_qubits, own_cbits, with_fresh, without_turns}
+use Rattle.sc_flat.specs.Walks.{less_turns, rest_of, opens, numbers, rest, places_of, own_qubits, own_cbits, with_fresh, without_turns}
 use Rattle.sc_flat.proofs.PlaceLemmas.{Same, of_class-qubits, of_class-cbits, of_class-push}
 use Rattle.sc_flat.proofs.TurnLemmas.{once, IsStep, items_same, less_none, left_turns}
 use Rattle.sc_flat.proofs.StepLemmas.{closed, split, Before, outer, rest_in, rest_before}

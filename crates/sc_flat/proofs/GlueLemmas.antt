@@ -1,40 +1,38 @@
 -- Steps of a walk that keeps what it goes over.
-use Rattle.std.proofs.Common.{◌≡◌, ℕ, zero, suc, ◌+◌, ◌-◌, ◌*◌, ◌<◌, ◌≤◌, ◌^◌, List, [], ◌∷◌, ◌++◌, map, drop, take, get_or, length, Option, Some, refl, sym, ap, subst, ◌∙◌, arith}
-use Rattle.std.specs.Prelude.{slice_get, slice_index}
+use Rattle.std.proofs.Common.{◌≡◌, ℕ, zero, suc, ◌+◌, ◌<◌, ◌≤◌, ◌^◌, List, [], ◌∷◌, ◌++◌, map, drop, take, get_or, length, Some, refl, sym, ap, subst, ◌∙◌, arith}
+use Rattle.std.specs.Prelude.{slice_get}
 use Rattle.std.specs.Option.{option_map_or}
-use Rattle.std.proofs.lemmas.List.{drop-append-le, take-append-le, take_at, drop_at, length-append, append-nil}
+use Rattle.std.proofs.lemmas.List.{drop-append-le, take-append-le, take_at, drop_at, length-append}
 use Rattle.sc_base.specs.declared.names.Class.{Class}
 use Rattle.sc_base.specs.declared.names.Class.TheVariants.{Q, C}
 use Rattle.sc_gate.specs.declared.gate.Wire.{Wire}
 use Rattle.sc_gate.specs.declared.gate.Gate.{Gate}
 use Rattle.sc_gate.specs.Gates.{class_of}
-use Rattle.sc_gate.specs.Numbers.{Numbers, number_of, with_more, AreThere}
+use Rattle.sc_gate.specs.Numbers.{Numbers}
 use Rattle.sc_gate.specs.Renaming.{rename_gate}
 use Rattle.sc_deck.specs.declared.item.Item.{Item}
 use Rattle.sc_deck.specs.declared.item.Item.TheVariants as item
 use Rattle.sc_deck.specs.Decks.{IsDeck}
-use Rattle.sc_deck.specs.Events.{Event, Enter, Fresh, Apply, Return, after_events, gates_in}
+use Rattle.sc_deck.specs.Events.{Enter, Fresh, Apply, Return, after_events}
 use Rattle.sc_deck.specs.Items.{after_item, callee_of}
 use Rattle.sc_deck.specs.Keys.{param_classes}
 use Rattle.sc_deck.specs.Modules.{Module}
 use Rattle.sc_deck.specs.Turns.{turns_of}
-use Rattle.sc_deck.specs.Unfolding.{unfoldings, unfold_on, placed, repeated}
+use Rattle.sc_deck.specs.Unfolding.{unfoldings, unfold_on, placed}
 use Rattle.sc_deck.proofs.SequenceLaws.{after_events-append}
-use Rattle.sc_deck.proofs.EarlierLaws.{unfold_on-at}
 use Rattle.sc_flat.specs.declared.frames.Frame.{Frame}
-use Rattle.sc_flat.specs.declared.size.Size.{Size}
 use Rattle.sc_flat.specs.declared.walk.Walk.{Walk}
 use Rattle.sc_flat.specs.Frames.{lengths, numbers_in, numbers_from}
-use Rattle.sc_flat.specs.Kept.{IsSizeOf, FrameKept, FramesKept, WalkKept}
+use Rattle.sc_flat.specs.Kept.{FrameKept, FramesKept, WalkKept}
 use Rattle.sc_flat.specs.Steps.{Went}
-use Rattle.sc_flat.specs.Walks.{numbers, rest, places_of, own_qubits, own_cbits, passed, turned, with_turn, with_fresh, without_turns, inside, outside}
+use Rattle.sc_flat.specs.Walks.{numbers, rest, places_of, own_qubits, own_cbits, turned, with_turn, with_fresh, inside, outside}
 use Rattle.sc_flat.proofs.RunLemmas.{length-numbers}
 use Rattle.sc_flat.proofs.ItemLemmas.{drop_get}
 use Rattle.sc_flat.proofs.KeptLemmas.{passed_kept, turned_kept, callee_kept}
 use Rattle.sc_flat.proofs.TurnLemmas.{once, IsStep}
 use Rattle.sc_flat.proofs.StepLemmas.{Before, gate_turn}
 use Rattle.sc_flat.proofs.CallSteps.{enter_turn, leave_turn}
-use Rattle.sc_flat.proofs.FreshSteps.{fresh_turn, skip_turn, skip_gates, skip_numbers}
+use Rattle.sc_flat.proofs.FreshSteps.{fresh_turn}
 
 -- the item at a place
 pub get_at : {X : Type 0} (xs : List X) (k : ℕ) (d x : X) → k < length xs → get_or xs k d ≡ x → slice_get xs k ≡ Some x

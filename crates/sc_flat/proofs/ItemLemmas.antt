@@ -1,5 +1,5 @@
 -- What is known of the item at a place of a body.
-use Rattle.std.proofs.Common.{◌≡◌, ℕ, zero, suc, ◌+◌, ◌-◌, ◌<◌, ◌≤◌, max, List, [], ◌∷◌, ◌++◌, map, drop, take, length, Option, Some, None, refl, sym, ap, subst, ◌∙◌, arith}
+use Rattle.std.proofs.Common.{◌≡◌, ℕ, zero, suc, ◌+◌, ◌<◌, ◌≤◌, List, [], ◌∷◌, map, drop, take, Option, Some, None, refl, ap, subst, ◌∙◌, arith}
 use Rattle.std.specs.Prelude.{slice_get, slice_index, IsSomeAnd}
 use Rattle.std.specs.Option.{option_map_or}
 use Rattle.sc_base.specs.declared.names.Class.TheVariants.{Q, C}
@@ -10,12 +10,11 @@ use Rattle.sc_deck.specs.declared.item.Item.{Item}
 use Rattle.sc_deck.specs.declared.item.Item.TheVariants as item
 use Rattle.sc_deck.specs.Bodies.{after_items, ItemsFit, wires_of}
 use Rattle.sc_deck.specs.Decks.{IsDeck, CallsFit, CallFits, ItemCallFits}
-use Rattle.sc_deck.specs.Items.{after_item, ItemFits, callee_of, callees_of}
+use Rattle.sc_deck.specs.Items.{after_item, ItemFits, callee_of}
 use Rattle.sc_deck.specs.Keys.{param_classes}
-use Rattle.sc_deck.specs.Modules.{Module, body_of, greatest, greatest_called, reach_over, reaches_of}
+use Rattle.sc_deck.specs.Modules.{Module, body_of, greatest_called, reaches_of}
 use Rattle.sc_deck.specs.Turns.{turns_of}
-use Rattle.sc_deck.proofs.CallLaws.{CallEarlier-at}
-use Rattle.sc_deck.proofs.ReachLaws.{Solved, reaches-Solved}
+use Rattle.sc_deck.proofs.ReachLaws.{reaches-Solved}
 
 same_some : {X : Type 0} (x y : X) → Some x ≡ Some y → x ≡ y
 same_some x y e = cc

@@ -1,26 +1,26 @@
 -- What a walk keeps, step by step.
-use Rattle.std.proofs.Common.{◌≡◌, ℕ, zero, suc, ◌+◌, ◌-◌, ◌<◌, ◌≤◌, nat_eq, Bool, true, false, cond, List, [], ◌∷◌, ◌++◌, map, drop, take, get_or, length, Option, Some, refl, sym, ap, subst, ◌∙◌, arith}
-use Rattle.std.specs.Prelude.{slice_get, slice_index}
+use Rattle.std.proofs.Common.{◌≡◌, ℕ, ◌+◌, ◌<◌, ◌≤◌, nat_eq, Bool, true, false, cond, List, map, drop, take, get_or, length, Some, refl, sym, ap, subst, ◌∙◌, arith}
+use Rattle.std.specs.Prelude.{slice_get}
 use Rattle.std.specs.Option.{option_map_or, unwrap_or}
 use Rattle.std.proofs.lemmas.Bool.Decides.{Decides-eqb}
-use Rattle.std.proofs.lemmas.List.{length-append, length-map, length-drop, drop-append-le, take-append-le, take_at, drop_at}
+use Rattle.std.proofs.lemmas.List.{length-map, length-drop}
 use Rattle.std.proofs.lemmas.Option.{slice_get_within, unwrap_or-slice_get}
 use Rattle.sc_base.specs.declared.names.Class.TheVariants.{Q, C}
 use Rattle.sc_gate.specs.declared.gate.Wire.{Wire}
 use Rattle.sc_gate.specs.Gates.{class_of}
-use Rattle.sc_gate.specs.Numbers.{Numbers, both, number_of}
+use Rattle.sc_gate.specs.Numbers.{both}
 use Rattle.sc_deck.specs.declared.item.Item.{Item}
-use Rattle.sc_deck.specs.Bodies.{IsBody, after_items, wires_of}
+use Rattle.sc_deck.specs.Bodies.{IsBody, after_items}
 use Rattle.sc_deck.specs.Decks.{IsDeck}
 use Rattle.sc_deck.specs.Items.{after_item, callee_of}
 use Rattle.sc_deck.specs.Keys.{params_of, param_classes}
-use Rattle.sc_deck.specs.Modules.{Module, body_of, reaches_of}
+use Rattle.sc_deck.specs.Modules.{Module, body_of}
 use Rattle.sc_deck.specs.Turns.{turns_of}
 use Rattle.sc_deck.specs.Unfolding.{of_class}
 use Rattle.sc_deck.proofs.PlaceLaws.{Sized-params}
 use Rattle.sc_flat.specs.declared.frames.Frame.{Frame}
 use Rattle.sc_flat.specs.Frames.{lengths, numbers_in}
-use Rattle.sc_flat.specs.Kept.{FrameKept, FramesKept}
+use Rattle.sc_flat.specs.Kept.{FrameKept}
 use Rattle.sc_flat.specs.Walks.{passed, turned}
 use Rattle.sc_flat.proofs.PassLemmas.{parted}
 use Rattle.sc_flat.proofs.ItemLemmas.{after_more, turns_some, front_grows, reach_of_body, reach_of_callee}

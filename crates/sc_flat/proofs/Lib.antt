@@ -9,6 +9,7 @@ pub mod PassLemmas
 pub mod PlaceLemmas
 pub mod RunLemmas
 pub mod SizeLemmas
+pub mod SpreadLemmas
 pub mod StackLemmas
 pub mod StepGates
 pub mod StepLemmas

@@ -1,5 +1,5 @@
 -- Wires that are put behind those of all frames.
-use Rattle.std.proofs.Common.{◌≡◌, ℕ, zero, suc, ◌+◌, ◌<◌, ◌≤◌, List, [], ◌∷◌, ◌++◌, map, drop, take, get_or, length, refl, sym, ap, subst, ◌∙◌, arith, append_assoc}
+use Rattle.std.proofs.Common.{◌≡◌, ℕ, zero, suc, ◌+◌, ◌<◌, ◌≤◌, List, [], ◌∷◌, ◌++◌, map, take, get_or, length, refl, sym, ap, subst, ◌∙◌, arith, append_assoc}
 use Rattle.std.specs.Prelude.{slice_index}
 use Rattle.std.proofs.lemmas.List.{append-nil, length-append, length-map, length-take, drop-append-le, take_more, map-append}
 use Rattle.std.proofs.Math.ListN.{get_or-append}
@@ -12,9 +12,9 @@ use Rattle.sc_gate.specs.Wires.{same_class}
 use Rattle.sc_deck.specs.Renaming.{wire}
 use Rattle.sc_deck.specs.Unfolding.{placed, of_class}
 use Rattle.sc_flat.specs.declared.walk.Walk.{Walk}
-use Rattle.sc_flat.specs.Frames.{Held, held_wires, wires_in, lengths, numbers_in, with_numbers, with_wires}
+use Rattle.sc_flat.specs.Frames.{Held, held_wires, lengths, numbers_in, with_numbers, with_wires}
 use Rattle.sc_flat.specs.Walks.{own_qubits, own_cbits, places_of}
-use Rattle.sc_flat.proofs.PlaceLemmas.{placed_qubit, placed_cbit, there_qubit, there_cbit}
+use Rattle.sc_flat.proofs.PlaceLemmas.{placed_qubit, placed_cbit}
 
 there_at : (numbers : Numbers) (ws : List Wire) (i : ℕ) (d : Wire) → AreThere numbers ws → i < length ws → IsThere numbers (get_or ws i d)
 there_at numbers [] i d there within = absurd (omega arith)

@@ -1,12 +1,12 @@
 -- Items turn by turn, and items over the same wires.
-use Rattle.std.proofs.Common.{◌≡◌, ℕ, zero, suc, ◌+◌, ◌-◌, ◌<◌, ◌≤◌, List, [], ◌∷◌, ◌++◌, map, refl, sym, ap, ◌∙◌, arith, append_assoc, subst}
+use Rattle.std.proofs.Common.{◌≡◌, ℕ, zero, suc, ◌-◌, ◌<◌, List, [], ◌∷◌, ◌++◌, map, refl, sym, ap, ◌∙◌, arith, append_assoc}
 use Rattle.std.proofs.lemmas.List.{append-nil}
 use Rattle.sc_gate.specs.declared.gate.Wire.{Wire}
 use Rattle.sc_gate.specs.Numbers.{Numbers}
 use Rattle.sc_gate.specs.Renaming.{rename_gate}
 use Rattle.sc_deck.specs.declared.item.Item.{Item}
 use Rattle.sc_deck.specs.declared.item.Item.TheVariants as item
-use Rattle.sc_deck.specs.Events.{Event, Fresh, Apply, after_events}
+use Rattle.sc_deck.specs.Events.{Event, Apply, after_events}
 use Rattle.sc_deck.specs.Turns.{turns_of}
 use Rattle.sc_deck.specs.Unfolding.{Unfolding, unfolding_at, unfold_item, unfold_items, places_with, placed, repeated}
 use Rattle.sc_deck.proofs.SequenceLaws.{after_events-append}

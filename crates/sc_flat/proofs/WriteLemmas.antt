@@ -1,13 +1,13 @@
 -- Gates that are shown and written one after another.
-use Rattle.std.proofs.Common.{◌≡◌, ℕ, ◌+◌, ◌≤◌, List, [], ◌∷◌, ◌++◌, Bool, map, refl, sym, ap, subst, ◌∙◌, append_assoc, arith}
-use Rattle.std.specs.Prelude.{flat_map, Result, Ok, Err, OnOk, OnErr}
+use Rattle.std.proofs.Common.{◌≡◌, ℕ, ◌≤◌, List, [], ◌∷◌, ◌++◌, Bool, map, refl, sym, ap, subst, ◌∙◌, append_assoc, arith}
+use Rattle.std.specs.Prelude.{Result, Ok, Err, OnOk, OnErr}
 use Rattle.std.proofs.lemmas.List.{append-nil}
 use Rattle.std.proofs.lemmas.List.Sums.{fold_push}
 use Rattle.std.proofs.lemmas.Grind.{flat_map-append}
 use Rattle.sc_base.specs.Causes.{HasCause, Rose}
 use Rattle.sc_base.specs.Output.{Wrote, WrotePrefix}
 use Rattle.sc_base.proofs.CauseLemmas.{rose_after}
-use Rattle.sc_base.proofs.OutputLemmas.{wrote_then, wrote_as, prefix_at, prefix_more, prefix_then, prefix_whole}
+use Rattle.sc_base.proofs.OutputLemmas.{wrote_then, prefix_at, prefix_then, prefix_whole}
 use Rattle.sc_gate.specs.declared.gate.Gate.{Gate}
 use Rattle.sc_gate.specs.Lines.{gate_line, gate_lines}
 use Rattle.sc_probe.specs.declared.rule.Rule.{Rule}

@@ -1,7 +1,6 @@
 -- What a walk keeps of the deck that it goes over.
-use Rattle.std.specs.Prelude.{◌≡◌, ℕ, ◌+◌, ◌-◌, ◌<◌, ◌≤◌, ◌^◌, List, [], ◌∷◌, length, take, drop, slice_get, slice_index, Some}
+use Rattle.std.specs.Prelude.{◌≡◌, ℕ, ◌+◌, ◌<◌, ◌≤◌, ◌^◌, List, [], ◌∷◌, length, take, drop, slice_get, slice_index, Some}
 use Rattle.std.specs.Option.{option_map_or}
-use Rattle.sc_gate.specs.Numbers.{Numbers}
 use Rattle.sc_deck.specs.Bodies.{after_items}
 use Rattle.sc_deck.specs.Events.{after_events, fresh_in}
 use Rattle.sc_deck.specs.Keys.{params_of}

@@ -1,5 +1,7 @@
 pub mod Frames
 pub mod Kept
+pub mod Listed
+pub mod Runs
 pub mod Shown
 pub mod Sizes
 pub mod Stacks

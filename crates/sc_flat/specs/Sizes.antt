@@ -1,5 +1,5 @@
 -- Sizes from the counts of a tally.
-use Rattle.std.specs.Prelude.{ℕ, ◌<◌, ◌^◌}
+use Rattle.std.specs.Prelude.{◌<◌, ◌^◌}
 use Rattle.sc_count.specs.declared.counts.Counts.{Counts}
 use Rattle.sc_flat.specs.declared.size.Size.{Size}
 

@@ -1,5 +1,5 @@
 -- One step of a walk.
-use Rattle.std.specs.Prelude.{◌≡◌, ℕ, ◌≤◌, List, [], ◌∷◌, ◌++◌, length}
+use Rattle.std.specs.Prelude.{◌≡◌, ◌≤◌, List, [], ◌∷◌, ◌++◌, length}
 use Rattle.sc_gate.specs.declared.gate.Gate.{Gate}
 use Rattle.sc_deck.specs.Events.{Event, gates_in, after_events}
 use Rattle.sc_deck.specs.Modules.{Module}

@@ -3,6 +3,7 @@
 
 mod expander;
 mod frames;
+mod number_list;
 mod preparing;
 mod size;
 mod step;

@@ -2,6 +2,7 @@
 ghost use Rattle.std.specs.Prelude.{◌≡◌, ◌+◌, ◌<◌, ◌≤◌, ◌^◌, [], ◌∷◌, length, take, drop, slice_index, IfOk};
 ghost use Rattle.sc_flat.specs.Frames.{held_wires, numbers_of, numbers_from, with_numbers};
 
+use crate::number_list::NumberList;
 use sc_base::{Class, Memory};
 use sc_gate::Wire;
 use std::alloc::Global;
@@ -11,20 +12,20 @@ use std::marker::Model;
 /// the room that was reserved.
 #[derive(Debug, Drop)]
 pub(crate) struct Wires {
-    qubits: Vec<u32>,
-    cbits: Vec<u32>,
+    qubits: NumberList,
+    cbits: NumberList,
     room: u64,
 }
 
 impl Model for Wires {
-    ghost use Rattle.std.specs.Prelude.{◌+◌, ◌≤◌, length, vec_capacity};
+    ghost use Rattle.std.specs.Prelude.{◌≡◌, ◌+◌, ◌≤◌, length};
     ghost use Rattle.sc_flat.specs.Frames.{Held};
 
     ghost Value = { Held };
 
-    ghost view = { λ w. record { qubits = w.qubits.items; cbits = w.cbits.items; room = w.room } };
+    ghost view = { λ w. record { qubits = w.qubits.numbers; cbits = w.cbits.numbers; room = w.room } };
 
-    ghost invariant = { λ w. (length w.qubits.items + length w.cbits.items ≤ w.room) × (w.room ≤ vec_capacity w.qubits) × (w.room ≤ vec_capacity w.cbits) };
+    ghost invariant = { λ w. (length w.qubits.numbers + length w.cbits.numbers ≤ w.room) × (w.qubits.room ≡ w.room) × (w.cbits.room ≡ w.room) };
 }
 
 impl Wires {
@@ -32,12 +33,8 @@ impl Wires {
     pub fn reserve(alloc: Global, room: u64) -> Result<Wires, Memory>
         ensures { IfOk result (λ wires. wires ≡ record { qubits = []; cbits = []; room = room }) }
     {
-        let Ok(qubits) = Vec::with_capacity(alloc, room as usize) else {
-            return Err(Memory);
-        };
-        let Ok(cbits) = Vec::with_capacity(alloc, room as usize) else {
-            return Err(Memory);
-        };
+        let qubits = NumberList::reserve(alloc, room as usize)?;
+        let cbits = NumberList::reserve(alloc, room as usize)?;
         Ok(Wires {
             qubits,
             cbits,
@@ -69,8 +66,8 @@ impl Wires {
         ensures { self.new ≡ with_numbers class (number ∷ []) self.old }
     {
         match class {
-            Class::Q => self.qubits.push(number).unwrap(),
-            Class::C => self.cbits.push(number).unwrap(),
+            Class::Q => self.qubits.push(number),
+            Class::C => self.cbits.push(number),
         }
     }
 
@@ -80,8 +77,9 @@ impl Wires {
         requires few { first + n < 2 ^ 32 }
         ensures { self.new ≡ with_numbers class (numbers_from first n) self.old }
     {
-        for k in 0..n {
-            self.push(class, first + k);
+        match class {
+            Class::Q => self.qubits.push_run(first, n),
+            Class::C => self.cbits.push_run(first, n),
         }
     }
 
@@ -99,9 +97,10 @@ impl Wires {
         requires place { place < length (drop start (numbers_of class self.now)) }
         ensures { result ≡ slice_index (drop start (numbers_of class self.now)) place }
     {
+        let _room = self.room;
         match class {
-            Class::Q => self.qubits[start..][place as usize],
-            Class::C => self.cbits[start..][place as usize],
+            Class::Q => self.qubits.number(start + place as usize),
+            Class::C => self.cbits.number(start + place as usize),
         }
     }
 }

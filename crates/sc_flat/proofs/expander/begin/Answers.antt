@@ -1,4 +1,4 @@
-use Rattle.std.proofs.Common.{◌≡◌, ◌-◌, get_or, arith}
+use Rattle.std.proofs.Common.{◌-◌, get_or, arith}
 use Rattle.sc_flat.specs.declared.size.Size.{Size}
 use Rattle.sc_flat.proofs.BeginLemmas.{at_front, some_module, last_size, last_within}
 use Rattle.sc_flat.proofs.expander.begin.Goals as goal

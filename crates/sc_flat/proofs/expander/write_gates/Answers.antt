@@ -1,4 +1,4 @@
-use Rattle.std.proofs.Common.{◌≡◌, ◌+◌, ◌≤◌, ◌<◌, [], ◌∷◌, ◌++◌, ◌∙◌, refl, arith}
+use Rattle.std.proofs.Common.{[], ◌∷◌, ◌++◌, ◌∙◌, refl, arith}
 use Rattle.sc_gate.specs.Lines.{gate_lines}
 use Rattle.sc_base.proofs.OutputLemmas.{wrote_then, wrote_nothing, wrote_as}
 use Rattle.sc_deck.specs.Events.{gates_in}

@@ -1,4 +1,4 @@
-use Rattle.std.proofs.Common.{◌≡◌, length, ap, arith}
+use Rattle.std.proofs.Common.{length, ap, arith}
 use Rattle.sc_flat.proofs.BeginLemmas.{some_module}
 use Rattle.sc_flat.proofs.SizeLemmas.{last_count}
 use Rattle.sc_flat.proofs.preparing.last_counts.Goals as goal

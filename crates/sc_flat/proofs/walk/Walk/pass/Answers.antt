@@ -1,4 +1,4 @@
-use Rattle.std.proofs.Common.{◌≡◌, ◌<◌, length, ◌∙◌, map, take}
+use Rattle.std.proofs.Common.{◌∙◌, map, take}
 use Rattle.sc_deck.specs.Unfolding.{placed}
 use Rattle.sc_flat.specs.Walks.{places_of}
 use Rattle.sc_flat.proofs.PassLemmas.{pass_more, passing_placed, passing_room}

@@ -1,9 +1,7 @@
-use Rattle.std.proofs.Common.{◌≡◌, ◌+◌, ◌<◌, ◌≤◌, get_or, Some, sym, ap, ◌∙◌, arith}
+use Rattle.std.proofs.Common.{get_or, sym, ap, ◌∙◌, arith}
 use Rattle.std.specs.Option.{option_copied, option_map}
-use Rattle.std.specs.Prelude.{slice_get}
 use Rattle.sc_deck.specs.declared.item.Item.TheVariants as item
 use Rattle.sc_deck.specs.Modules.{body_of}
-use Rattle.sc_flat.specs.declared.size.Size.{Size}
 use Rattle.sc_flat.proofs.ArmLemmas.{gate_arm, gates_arm, fresh_room, fresh_few, fresh_arm, call_of, calls_of, call_arm, leave_arm, fits_here, here, past_items, some_copied, size_of, in_sizes, callable}
 use Rattle.sc_flat.proofs.GlueLemmas.{before_of}
 use Rattle.sc_flat.proofs.walk.Walk.step.Goals as goal

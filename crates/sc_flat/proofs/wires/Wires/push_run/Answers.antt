@@ -1,12 +1,23 @@
-use Rattle.std.proofs.Common.{◌<◌, arith}
-use Rattle.sc_flat.proofs.RunLemmas.{run_none, run_more, run_room}
+use Rattle.std.proofs.Common.{length, ap, ◌∙◌, arith, length-append}
+use Rattle.sc_flat.specs.Frames.{Held, held_wires, numbers_from}
+use Rattle.sc_flat.specs.Listed.{Listed}
+use Rattle.sc_flat.proofs.RunLemmas.{length-numbers}
 use Rattle.sc_flat.proofs.wires.Wires.push_run.Goals as goal
 
-pub loop-k-init : goal.loop-k-init
-loop-k-init c = run_none c.args.class c.args.first c.args.self.now
+pub invariant_of-self : goal.invariant_of-self
+invariant_of-self c =
+    let l = ap (λ (v : Listed). length v.numbers) c.push_run.ensures in
+    let a = length-append c.self.inside.qubits.numbers (numbers_from c.args.first c.args.n) in
+    let n = length-numbers c.args.first c.args.n in
+    let h = ap (λ (v : Held). held_wires v) c.self.view_is in
+    let r = ap (λ (v : Held). v.room) c.self.view_is in
+    (omega (arith, c.requires.room), ap (λ (v : Listed). v.room) c.push_run.ensures ∙ c.self.invariant.1, c.self.invariant.2)
 
-pub push-requires : goal.push-requires
-push-requires c = run_room c.args.class c.args.first c.args.n c.loop-k.k c.loop-k.self c.args.self.now c.loop-k.invariant c.requires.room (omega arith)
-
-pub loop-k-preserved : goal.loop-k-preserved
-loop-k-preserved c = run_more c.args.class c.args.first c.loop-k.k c.loop-k.self c.push.new.self c.args.self.now c.loop-k.invariant c.push.ensures
+pub invariant_of-self-in-C : goal.invariant_of-self-in-C
+invariant_of-self-in-C c =
+    let l = ap (λ (v : Listed). length v.numbers) c.push_run-in-C.ensures in
+    let a = length-append c.self.inside.cbits.numbers (numbers_from c.args.first c.args.n) in
+    let n = length-numbers c.args.first c.args.n in
+    let h = ap (λ (v : Held). held_wires v) c.self.view_is in
+    let r = ap (λ (v : Held). v.room) c.self.view_is in
+    (omega (arith, c.requires.room), c.self.invariant.1, ap (λ (v : Listed). v.room) c.push_run-in-C.ensures ∙ c.self.invariant.2)
