@@ -65,3 +65,11 @@ back_line (line.Measure a bit) = record { kind = kind.MeasZ; a = a; b = bit; c =
 
 abbrev pub back : OpenText → List Gate
 back t = map back_line t.lines
+
+-- lowering loses nothing of a gate of this kind: no PrepX, no MeasX, no Fredkin and no start value 1
+abbrev pub is_kept : Kind → Bool
+is_kept (kind.PrepX start) = false
+is_kept (kind.PrepZ true) = false
+is_kept kind.MeasX = false
+is_kept kind.Fredkin = false
+is_kept _ = true
