@@ -192,6 +192,10 @@ pub lowered_is_sound : (qubits cbits : ℕ) (gates : List Gate) → qubits ≤ m
 lowered_is_sound qubits cbits gates few small all = record { qubits = few; cbits = small; lines = lowered_all (counts qubits cbits) (needs_spare gates) gates all (λ e. e) }
 
 -- WHAT COMES BACK
+pub all_well_formed : (wires : Numbers) (gates : List Gate) → AllByRecursion (IsNextGate wires) gates → AllByRecursion IsWellFormed gates
+all_well_formed wires [] all = tt
+all_well_formed wires (g ∷ gates) all = (all.0.has_line.well_formed, all_well_formed wires gates all.1)
+
 back_as : (k : Kind) (a : Wire) (b c : Option Wire) → IsWellFormed (record { kind = k; a = a; b = b; c = c }) → is_kept k ≡ true →
     map back_line (lower_gate (record { kind = k; a = a; b = b; c = c })) ≡ record { kind = k; a = a; b = b; c = c } ∷ []
 back_as (kind.PrepZ false) a b c formed kept =

@@ -38,12 +38,13 @@ pub fn written_open_texts_are_read()
 {}
 
 /// A gate list without PrepX, MeasX, Fredkin and start values 1 comes back: the lines that it is lowered to are read as its gates,
-/// and have its flat text.
+/// and what is read of its OpenQASM text has its flat text.
 pub fn kept_gates_come_back()
     ensures gates { (qubits cbits : ℕ) (gates : List Gate) → AllByRecursion IsWellFormed gates → AllByRecursion (λ g. is_kept g.kind ≡ true) gates →
         back (lowered qubits cbits gates) ≡ gates }
-    ensures text { (qubits cbits : ℕ) (gates : List Gate) → AllByRecursion IsWellFormed gates → AllByRecursion (λ g. is_kept g.kind ≡ true) gates →
-        flat_text qubits cbits (back (lowered qubits cbits gates)) ≡ flat_text qubits cbits gates }
+    ensures text { (qubits cbits : ℕ) (gates : List Gate) (t : OpenText) → qubits ≤ most_flat_wires → cbits ≤ most_flat_wires →
+        AllByRecursion (IsNextGate (counts qubits cbits)) gates → AllByRecursion (λ g. is_kept g.kind ≡ true) gates →
+        IsOpenText (open_text (lowered qubits cbits gates)) t → flat_text t.qubits t.cbits (back t) ≡ flat_text qubits cbits gates }
 {}
 
 /// The texts of two small gate lists, and what the second is read as.

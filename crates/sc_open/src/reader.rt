@@ -5,7 +5,7 @@ ghost use Rattle.sc_open.specs.declared.reader.Part.{Part as Parts};
 ghost use Rattle.sc_open.specs.declared.reader.Part.TheVariants as part;
 ghost use Rattle.sc_open.specs.OpenTexts.{register_line, spare_line};
 ghost use Rattle.sc_open.specs.OpenStages.{IsSize, MayFollow, part_text, with_part};
-ghost use Rattle.sc_open.specs.OpenReads.{IsOpenText, IsOpenFault};
+ghost use Rattle.sc_open.specs.OpenReads.{IsInGrammar, IsOpenText, IsOpenFault};
 
 use crate::open_line::{Registers, read_line};
 use crate::{Line, OpenText};
@@ -37,6 +37,7 @@ enum Part {
 pub fn read_open(alloc: Global, text: &[u8]) -> Result<OpenText, OpenFault>
     requires { length text.now ≤ 134217728 }
     ensures ok { IfOk result (λ read. IsOpenText text.now read) }
+    ensures grammar { IfOk result (λ read. IsInGrammar text.now read) }
     ensures fault { IfErr result (λ fault. IsOpenFault text.now fault) }
 {
     let Some(after_title) = take_text(text, b"OPENQASM 2.0;\n") else {

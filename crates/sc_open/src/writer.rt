@@ -138,8 +138,9 @@ fn write_gates<O: Sink>(gates: &[Gate], out: &mut O) -> Result<(), WriteFault>
 
 /// Writes the OpenQASM text of a gate list over so many qubits and classical bits. Preparations become resets with an X where the
 /// start value is 1, and with an H for PrepX; MeasX becomes a measurement between two H, and Fredkin a Toffoli between two CNOT.
-/// The register `u` of one bit is declared exactly where a measurement has no classical bit. Takes no memory. At a fault of the
-/// sink a prefix of the text is written.
+/// The register `u` of one bit is declared exactly where a measurement has no classical bit. `read_open` reads the text of
+/// well-formed gates over these wires as what they are lowered to (`laws`). Takes no memory. At a fault of the sink a prefix of
+/// the text is written.
 pub fn write_open<O: Sink>(
     gates: &[Gate],
     qubits: u32,

@@ -4,6 +4,7 @@ use Rattle.sc_base.specs.declared.lines.Lines.{Lines}
 use Rattle.sc_open.specs.declared.line.Line.{Line}
 use Rattle.sc_open.specs.OpenStages.{no_text}
 use Rattle.sc_open.specs.OpenReads.{IsBadLine}
+use Rattle.sc_open.proofs.Grammar.{read_is_grammar}
 use Rattle.sc_open.proofs.ReadLoop.{OpenRead, front_read, title_bad, include_bad, open_short, line_shorter, part_read, part_bad, open_whole, open_ends}
 use Rattle.sc_open.proofs.reader.read_open.Goals as goal
 
@@ -44,6 +45,9 @@ returns-then-is_empty-clause-ok c =
     let none : length c.next_line.new.self.rest.now ≡ 0 = first_of (grind (arith, nat_tests), search rules) in
     open_whole c.args.text.now c.loop-line.read c.loop-line.lines.rest.now c.loop-line.lines.number c.loop-line.invariant
     (subst (λ (z : Lines). length z.rest.now ≡ 0) same none)
+
+pub returns-then-is_empty-clause-grammar : goal.returns-then-is_empty-clause-grammar
+returns-then-is_empty-clause-grammar c = read_is_grammar c.args.text.now c.loop-line.read (returns-then-is_empty-clause-ok c)
 
 pub returns-else-is_empty-clause-fault : goal.returns-else-is_empty-clause-fault
 returns-else-is_empty-clause-fault c =
