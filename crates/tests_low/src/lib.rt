@@ -1,4 +1,4 @@
-//! Tests of the lists, sinks, gates, observers, tables and tokens below everything.
+//! Tests of the lists, sinks, gates, observers, tables, OpenQASM texts and tokens below everything.
 #![tactic(auto)]
 
 #[cfg(test)]
@@ -7,6 +7,8 @@ mod base;
 mod cancel;
 #[cfg(test)]
 mod gate;
+#[cfg(test)]
+mod open;
 #[cfg(test)]
 mod probe;
 #[cfg(test)]

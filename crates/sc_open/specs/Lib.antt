@@ -1,0 +1,5 @@
+pub mod Lowering
+pub mod OpenFronts
+pub mod OpenReads
+pub mod OpenStages
+pub mod OpenTexts
