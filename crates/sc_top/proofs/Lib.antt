@@ -1,4 +1,6 @@
 mod BodyLemmas
+mod CarryLemmas
+mod CircuitLemmas
 mod FirstForm
 pub mod FirstGood
 mod FirstParts
@@ -10,3 +12,4 @@ pub mod OneAnswer
 pub mod OneCircuit
 mod PartLemmas
 mod RunLemmas
+mod StageLemmas

@@ -1,7 +1,7 @@
 //! What the words ask for.
 ghost use Rattle.std.specs.Prelude.{◌≡◌, ◌↔◌, map, Some, None, IfOk, IsErrOf};
 ghost use Rattle.std.specs.Rc.{rc_str_bytes};
-ghost use Rattle.sc_top.specs.Answers.{request, is_file, file_of};
+ghost use Rattle.sc_top.specs.Answers.{request, file_request, is_file};
 
 use sc_base::{Memory, Text};
 use std::alloc::Global;
@@ -12,17 +12,6 @@ use std::rc::RcStr;
 pub enum Request {
     /// The flat text of the source under a name.
     Flat { file: Text },
-}
-
-impl Request {
-    /// The name of the file that is asked for.
-    pub(crate) fn file(&self) -> &Text
-        ensures { result.now ≡ file_of self.now }
-    {
-        match self {
-            Request::Flat { file } => file,
-        }
-    }
 }
 
 /// Why words have no request.
@@ -53,16 +42,26 @@ fn may_name(word: &str) -> bool
     }
 }
 
-/// The request of the words after the program's name. `Usage` comes exactly where they are not `flat FILE`.
+/// The request of `flat FILE`.
+fn file_words(alloc: Global, mode: &str, file: &str) -> Result<Request, WordsFault>
+    ensures asked { IfOk result (λ r. file_request mode.now file.now ≡ Some r) }
+    ensures usage { IsErrOf result WordsFault.Usage ↔ (file_request mode.now file.now ≡ None) }
+{
+    if mode == "flat" && may_name(file) {
+        let file = Text::from_bytes(alloc, file.as_bytes())?;
+        Ok(Request::Flat { file })
+    } else {
+        Err(WordsFault::Usage)
+    }
+}
+
+/// The request of the words after the program's name. `Usage` comes exactly where they have none.
 pub fn read_words(alloc: Global, words: &[RcStr]) -> Result<Request, WordsFault>
-    ensures asked { IfOk result (λ r. request (map rc_str_bytes words.now) ≡ Some (file_of r)) }
+    ensures asked { IfOk result (λ r. request (map rc_str_bytes words.now) ≡ Some r) }
     ensures usage { IsErrOf result WordsFault.Usage ↔ (request (map rc_str_bytes words.now) ≡ None) }
 {
     match words {
-        [mode, file] if mode.as_str() == "flat" && may_name(file.as_str()) => {
-            let file = Text::from_bytes(alloc, file.as_str().as_bytes())?;
-            Ok(Request::Flat { file })
-        }
+        [mode, file] => file_words(alloc, mode.as_str(), file.as_str()),
         _ => Err(WordsFault::Usage),
     }
 }
