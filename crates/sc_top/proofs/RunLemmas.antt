@@ -23,7 +23,6 @@ use Rattle.sc_top.specs.declared.status.Status.TheVariants as status
 
 no_weight_done : (w : Weight) → is_done (weight_status w) ≡ false
 no_weight_done weight.Refused = refl
-no_weight_done weight.Usage = refl
 no_weight_done weight.Limit = refl
 
 fault_not_done : (f : Fault) → is_done (status_of f) ≡ false

@@ -1,29 +1,24 @@
 -- What a request is answered.
 use Rattle.std.specs.Prelude.{◌≡◌, ℕ, ◌<◌, ◌≤◌, ◌==◌, ◌&&◌, not, Bool, true, List, [], ◌∷◌, Option, None, Some, Result, Ok, Err, codes, length, if◌then◌else◌}
 use Rattle.std.specs.Str.{bytes_eq}
-use Rattle.sc_base.specs.Limits.{most_source_bytes}
+use Rattle.sc_base.specs.Limits.{most_source_bytes, most_text_bytes}
+use Rattle.sc_check.specs.declared.finding.Finding.{Finding}
+use Rattle.sc_deck.specs.Events.{flat}
+use Rattle.sc_deck.specs.Modules.{Module}
 use Rattle.sc_gate.specs.Lines.{flat_text}
-use Rattle.sc_syntax.specs.Lexing.{IsLexed, HasFault}
-use Rattle.sc_syntax.specs.declared.LexFault.{LexFault}
-use Rattle.sc_syntax.specs.declared.Token.{Token}
-use Rattle.sc_syntax.specs.declared.Source.{Source}
-use Rattle.sc_parse.specs.Grammar.{IsAccepted, IsTreeOf, IsRefused}
-use Rattle.sc_parse.specs.Pieces.{pieces}
-use Rattle.sc_parse.specs.declared.source.ParseFault.{ParseFault}
-use Rattle.sc_types.specs.Sources.{fault_of}
-use Rattle.sc_types.specs.Typing.{IsWellTyped}
-use Rattle.sc_types.specs.declared.fault.TypeFault.{TypeFault}
 use Rattle.sc_top.specs.Carried.{Carried}
+use Rattle.sc_top.specs.Circuits.{IsCircuit}
 use Rattle.sc_top.specs.Endings.{Output}
-use Rattle.sc_top.specs.Fault.{plain, token_refusal, grammar_refusal, type_refusal}
-use Rattle.sc_top.specs.First.{Made, IsFirstForm}
+use Rattle.sc_top.specs.Expansions.{whole, IsExpansion}
+use Rattle.sc_top.specs.Fault.{plain}
 use Rattle.sc_top.specs.Stages.{Then, Is, HasOne}
+use Rattle.sc_top.specs.Verdicts.{IsVerdict, judged}
 use Rattle.sc_top.specs.declared.circuit.Circuit.{Circuit}
 use Rattle.sc_top.specs.declared.fault.Fault.{Fault}
 use Rattle.sc_top.specs.declared.fault.Refusal.{Refusal}
 use Rattle.sc_top.specs.declared.fault.Reason.TheVariants as reason
 use Rattle.sc_top.specs.declared.request.Request.{Request}
-use Rattle.sc_top.specs.declared.request.Request.TheVariants.{Flat}
+use Rattle.sc_top.specs.declared.request.Request.TheVariants.{Flat, Expand, Check}
 use Rattle.sc_top.specs.declared.status.Ending.{Ending}
 use Rattle.sc_top.specs.declared.status.Ending.TheVariants as ending
 
@@ -35,65 +30,53 @@ is_file [] = true
 is_file (c ∷ []) = true
 is_file (c ∷ d ∷ rest) = not (c == 45)
 
--- what `flat FILE` asks for
+-- the most gates of a flat text, where the words name no limit
+abbrev pub default_limit : ℕ
+default_limit = 10000000
+
+-- what `flat FILE` or `expand FILE` asks for
 abbrev pub file_request : List ℕ → List ℕ → Option Request
-file_request mode file = if bytes_eq (codes "flat") mode && is_file file then Some (Flat file) else None
+file_request mode file =
+    if bytes_eq (codes "flat") mode && is_file file then Some (Flat file) else (if bytes_eq (codes "expand") mode && is_file file then Some (Expand file default_limit) else None)
+
+-- what `check FLAT SCHEDULE` asks for
+abbrev pub check_request : List ℕ → List ℕ → List ℕ → Option Request
+check_request mode list schedule = if bytes_eq (codes "check") mode && is_file list && is_file schedule then Some (Check list schedule) else None
 
 -- what words ask for
 abbrev pub request : List (List ℕ) → Option Request
 request (mode ∷ file ∷ []) = file_request mode file
+request (mode ∷ list ∷ schedule ∷ []) = check_request mode list schedule
 request words = None
 
--- ---- the stages
+-- ---- the answer of a request
 
 -- the text under the name, of at most so many bytes; a name under which no text is held has no answer
 abbrev pub IsText : (List ℕ → Option (List ℕ)) → ℕ → List ℕ → Result (List ℕ) Refusal → Type 0
 IsText held most file (Ok text) = (held file ≡ Some text) × (length text ≤ most)
 IsText held most file (Err refusal) = (text : List ℕ) × (held file ≡ Some text) × (most < length text) × (refusal ≡ plain reason.SourceTooLarge)
 
--- the tokens of a text
-abbrev pub IsTokens : List ℕ → Result (List Token) Refusal → Type 0
-IsTokens text (Ok tokens) = IsLexed text tokens
-IsTokens text (Err refusal) = (mistake : LexFault) × HasFault text mistake × (token_refusal mistake ≡ Some refusal)
+-- the circuit of the source under the name
+abbrev pub FlatOf : (List ℕ → Option (List ℕ)) → List ℕ → Result Circuit Refusal → Type 0
+FlatOf held file = Then (IsText held most_source_bytes file) IsCircuit
 
--- the tree of the tokens
-abbrev pub IsTree : List ℕ → List Token → Result Source Refusal → Type 0
-IsTree text tokens (Ok tree) = IsAccepted (pieces text tokens) × IsTreeOf text tokens tree
-IsTree text tokens (Err refusal) = (mistake : ParseFault) × IsRefused text tokens mistake × (grammar_refusal mistake ≡ Some refusal)
+-- the deck of the hierarchical text under the name, whose flat text has at most so many gates
+abbrev pub ExpansionOf : (List ℕ → Option (List ℕ)) → ℕ → List ℕ → Result (List Module) Refusal → Type 0
+ExpansionOf held limit file = Then (IsText held most_text_bytes file) (IsExpansion limit)
 
--- the tree is well typed
-abbrev pub IsTyped : Source → Result (Unit {0}) Refusal → Type 0
-IsTyped tree (Ok typed) = IsWellTyped tree
-IsTyped tree (Err refusal) = (mistake : TypeFault) × (fault_of tree ≡ Some mistake) × (type_refusal mistake ≡ Some refusal)
-
--- the tokens are not of the first form
-abbrev pub IsOther : List ℕ → List Token → Type 0
-IsOther text tokens = (made : Made) → IsFirstForm text tokens made → ⊥
-
-abbrev pub circuit_of : Made → Circuit
-circuit_of made = record { qubits = made.qubits; gates = made.gates }
-
--- the circuit of tokens of the first form
-abbrev pub IsFirst : List ℕ → List Token → Result Circuit Refusal → Type 0
-IsFirst text tokens (Ok circuit) = (made : Made) × IsFirstForm text tokens made × (circuit ≡ circuit_of made)
-IsFirst text tokens (Err refusal) = IsOther text tokens × (refusal ≡ plain reason.Unbuilt)
-
--- the circuit of the source, where it is built
-abbrev pub IsCircuit : List ℕ → Result Circuit Refusal → Type 0
-IsCircuit text = Then (IsTokens text) (λ tokens. Then (IsTree text tokens) (λ tree. Then (IsTyped tree) (λ typed. IsFirst text tokens)))
-
--- ---- the answer
+-- the verdict on the schedule under the second name, for the gates of the flat text under the first; both texts stand
+-- before either is looked at
+abbrev pub VerdictOf : (List ℕ → Option (List ℕ)) → List ℕ → List ℕ → Result Finding Refusal → Type 0
+VerdictOf held list schedule = Then (IsText held most_text_bytes list) (λ gates. Then (IsText held most_text_bytes schedule) (λ plan. IsVerdict gates plan))
 
 abbrev pub done : List ℕ → Output
 done text = record { text = text; ends = ending.Done }
 
--- what is to be written for `flat FILE`
-abbrev pub FlatOf : (List ℕ → Option (List ℕ)) → List ℕ → Result Circuit Refusal → Type 0
-FlatOf held file = Then (IsText held most_source_bytes file) IsCircuit
-
--- the answer of a request over the held texts, where memory is found and nothing fails from outside
+-- THE ANSWER of a request over the held texts, where memory is found and no call of shelf or sink fails
 abbrev pub Says : (List ℕ → Option (List ℕ)) → Request → Result Output Refusal → Type 0
 Says held (Flat file) = Then (FlatOf held file) (λ circuit. Is (Ok (done (flat_text circuit.qubits 0 circuit.gates))))
+Says held (Expand file limit) = Then (ExpansionOf held limit file) (λ modules. Is (Ok (done (flat (whole modules)))))
+Says held (Check list schedule) = Then (VerdictOf held list schedule) (λ found. Is (Ok (judged found)))
 
 -- ---- the words and their answers
 
@@ -113,13 +96,3 @@ CarriedOut held tells_held shelf_faults tells bytes is_ended faults job shelf_ol
 -- words have one answer at most
 abbrev pub HasOneAnswer : Type 0
 HasOneAnswer = (held : List ℕ → Option (List ℕ)) (words : List (List ℕ)) → HasOne (Answers held words)
-
--- a source of the first form is in the grammar and well typed
-pub record IsTypedText (text : List ℕ) (tokens : List Token) : Type 0 where
-  pub tree : Source
-  pub accepted : IsAccepted (pieces text tokens)
-  pub derives : IsTreeOf text tokens tree
-  pub typed : IsWellTyped tree
-
-abbrev pub FirstFormIsTyped : Type 0
-FirstFormIsTyped = (text : List ℕ) (tokens : List Token) (made : Made) → IsFirstForm text tokens made → IsTypedText text tokens

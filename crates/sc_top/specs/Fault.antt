@@ -3,6 +3,16 @@ use Rattle.std.specs.Prelude.{◌≡◌, ℕ, Bool, true, List, [], ◌++◌, Op
 use Rattle.sc_base.specs.Causes.{Stood}
 use Rattle.sc_base.specs.Output.{Wrote, WrotePrefix}
 use Rattle.sc_base.specs.declared.Place.{Place}
+use Rattle.sc_check.specs.declared.text_reader.SchedReadFault.{SchedReadFault}
+use Rattle.sc_check.specs.declared.text_reader.SchedReadFault.TheVariants as planning
+use Rattle.sc_count.specs.declared.tally.TallyFault.{TallyFault}
+use Rattle.sc_count.specs.declared.tally.TallyFault.TheVariants as counting
+use Rattle.sc_flat.specs.declared.preparing.PrepFault.{PrepFault}
+use Rattle.sc_flat.specs.declared.preparing.PrepFault.TheVariants as sizing
+use Rattle.sc_read.specs.declared.flat.FlatFault.{FlatFault}
+use Rattle.sc_read.specs.declared.flat.FlatFault.TheVariants as listing
+use Rattle.sc_read.specs.declared.hier.HierFault.{HierFault}
+use Rattle.sc_read.specs.declared.hier.HierFault.TheVariants as reading
 use Rattle.sc_syntax.specs.declared.LexFault.{LexFault}
 use Rattle.sc_syntax.specs.declared.LexFault.TheVariants as lexing
 use Rattle.sc_parse.specs.declared.source.ParseFault.{ParseFault}
@@ -28,6 +38,9 @@ plain name = record { reason = name; at = at.Nowhere }
 
 abbrev pub placed : Reason → Place → Refusal
 placed name place = record { reason = name; at = at.InSource place }
+
+abbrev pub at_line : Reason → ℕ → Refusal
+at_line name line = record { reason = name; at = at.Line line }
 
 -- a source whose tokens have this fault is refused so
 abbrev pub token_refusal : LexFault → Option Refusal
@@ -55,6 +68,37 @@ type_refusal (typing.BadWidth place) = Some (placed reason.BadWidth place)
 type_refusal typing.NoMain = Some (plain reason.NoMain)
 type_refusal typing.Memory = None
 
+-- a flat text that is not read for this reason
+abbrev pub flat_refusal : FlatFault → Option Refusal
+flat_refusal listing.SchedTooLarge = Some (plain reason.SchedTooLarge)
+flat_refusal (listing.BadQasm line) = Some (at_line reason.BadQasm line)
+flat_refusal listing.Memory = None
+
+-- a schedule text that is not read for this reason
+abbrev pub plan_refusal : SchedReadFault → Option Refusal
+plan_refusal (planning.BadSchedule line) = Some (at_line reason.BadSchedule line)
+plan_refusal planning.Memory = None
+
+-- a hierarchical text that is not read for this reason
+abbrev pub hier_refusal : HierFault → Option Refusal
+hier_refusal (reading.BadQasm line) = Some (at_line reason.BadQasm line)
+hier_refusal (reading.TooWide line) = Some (at_line reason.TooWide line)
+hier_refusal (reading.TooLong line) = Some (at_line reason.TooLong line)
+hier_refusal (reading.TooDeep line) = Some (at_line reason.TooDeep line)
+hier_refusal (reading.TooManyInstances line) = Some (at_line reason.TooManyInstances line)
+hier_refusal reading.Memory = None
+
+-- a deck that has no counts for this reason
+abbrev pub count_refusal : TallyFault → Option Refusal
+count_refusal counting.CountTooLarge = Some (plain reason.CountTooLarge)
+count_refusal counting.Memory = None
+
+-- a deck that has no flat text for this reason
+abbrev pub size_refusal : PrepFault → Option Refusal
+size_refusal sizing.TooManyWires = Some (plain reason.TooManyWires)
+size_refusal sizing.TooManyGates = Some (plain reason.TooManyGates)
+size_refusal sizing.Memory = None
+
 -- ---- the status
 
 -- what a reason weighs: a limit is passed, or the text is refused
@@ -62,11 +106,18 @@ abbrev pub weight_of : Reason → Weight
 weight_of reason.SourceTooLarge = weight.Limit
 weight_of reason.TooManyTokens = weight.Limit
 weight_of reason.TooNested = weight.Limit
+weight_of reason.TooWide = weight.Limit
+weight_of reason.TooLong = weight.Limit
+weight_of reason.TooDeep = weight.Limit
+weight_of reason.TooManyInstances = weight.Limit
+weight_of reason.CountTooLarge = weight.Limit
+weight_of reason.TooManyWires = weight.Limit
+weight_of reason.TooManyGates = weight.Limit
+weight_of reason.SchedTooLarge = weight.Limit
 weight_of _ = weight.Refused
 
 abbrev pub weight_status : Weight → Status
 weight_status weight.Refused = status.Refused
-weight_status weight.Usage = status.Usage
 weight_status weight.Limit = status.Limit
 
 abbrev pub status_of : Fault → Status
@@ -95,6 +146,16 @@ reason_name reason.MeasuredUse = codes "MeasuredUse"
 reason_name reason.BadWidth = codes "BadWidth"
 reason_name reason.NoMain = codes "NoMain"
 reason_name reason.Unbuilt = codes "Unbuilt"
+reason_name reason.BadQasm = codes "BadQasm"
+reason_name reason.BadSchedule = codes "BadSchedule"
+reason_name reason.TooWide = codes "TooWide"
+reason_name reason.TooLong = codes "TooLong"
+reason_name reason.TooDeep = codes "TooDeep"
+reason_name reason.TooManyInstances = codes "TooManyInstances"
+reason_name reason.CountTooLarge = codes "CountTooLarge"
+reason_name reason.TooManyWires = codes "TooManyWires"
+reason_name reason.TooManyGates = codes "TooManyGates"
+reason_name reason.SchedTooLarge = codes "SchedTooLarge"
 
 -- the line, a colon, the column, a colon and a space
 abbrev pub place_text : Place → List ℕ
@@ -103,6 +164,7 @@ place_text place = decimal place.line ++ codes ":" ++ decimal place.column ++ co
 abbrev pub at_text : At → List ℕ
 at_text at.Nowhere = []
 at_text (at.InSource place) = place_text place
+at_text (at.Line line) = codes "line " ++ decimal line ++ codes ": "
 
 abbrev pub fault_text : Fault → List ℕ
 fault_text fault.Usage = codes "Usage"

@@ -3,7 +3,7 @@ ghost use Rattle.std.specs.Prelude.{◌≤◌, length, Err};
 ghost use Rattle.sc_syntax.specs.Lexing.{IsLexed};
 ghost use Rattle.sc_syntax.specs.TokenLists.{AreRead};
 ghost use Rattle.sc_base.specs.Limits.{most_source_bytes};
-ghost use Rattle.sc_top.specs.Answers.{IsCircuit, IsOther};
+ghost use Rattle.sc_top.specs.Circuits.{IsCircuit, IsOther};
 ghost use Rattle.sc_top.specs.Stages.{Found, Why};
 
 use crate::fault::{Fault, Reason, lexing_fault, parsing_fault, plainly, typing_fault};

@@ -1,11 +1,15 @@
 //! Why a request ends with a fault.
 ghost use Rattle.std.specs.Prelude.{◌≡◌, ◌≤◌, ◌++◌, length, ◌+◌};
-ghost use Rattle.sc_top.specs.Fault.{status_of, fault_line, fault_text, reason_name, place_text, at_text, weight_of, weight_status, token_refusal, grammar_refusal, type_refusal};
+ghost use Rattle.sc_top.specs.Fault.{status_of, fault_line, fault_text, reason_name, place_text, at_text, weight_of, weight_status, token_refusal, grammar_refusal, type_refusal, flat_refusal, plan_refusal, hier_refusal, count_refusal, size_refusal};
 ghost use Rattle.sc_top.specs.Stages.{fault_of_refusal};
 
 use crate::status::Status;
 use sc_base::{LineBuffer, Place};
+use sc_check::SchedReadFault;
+use sc_count::TallyFault;
+use sc_flat::PrepFault;
 use sc_parse::ParseFault;
+use sc_read::{FlatFault, HierFault};
 use sc_syntax::LexFault;
 use sc_types::TypeFault;
 
@@ -31,6 +35,7 @@ pub struct Refusal {
 pub enum At {
     Nowhere,
     InSource(Place),
+    Line(u32),
 }
 
 #[derive(Clone, Copy, Debug, PartialEq, Eq)]
@@ -51,13 +56,22 @@ pub enum Reason {
     BadWidth,
     NoMain,
     Unbuilt,
+    BadQasm,
+    BadSchedule,
+    TooWide,
+    TooLong,
+    TooDeep,
+    TooManyInstances,
+    CountTooLarge,
+    TooManyWires,
+    TooManyGates,
+    SchedTooLarge,
 }
 
 /// The status that a reason leads to.
 #[derive(Clone, Copy, Debug, PartialEq, Eq)]
 pub(crate) enum Weight {
     Refused,
-    Usage,
     Limit,
 }
 
@@ -77,6 +91,15 @@ fn at_place(reason: Reason, place: Place) -> Fault
     Fault::Refused(Refusal {
         reason,
         at: At::InSource(place),
+    })
+}
+
+fn at_line(reason: Reason, line: u32) -> Fault
+    ensures { result ≡ Fault.Refused (record { reason = reason; at = At.Line line }) }
+{
+    Fault::Refused(Refusal {
+        reason,
+        at: At::Line(line),
     })
 }
 
@@ -121,19 +144,85 @@ pub(crate) fn typing_fault(fault: TypeFault) -> Fault
     }
 }
 
+/// The fault of a request over a flat text that is not read for this reason.
+pub(crate) fn flat_fault(fault: FlatFault) -> Fault
+    ensures { result ≡ fault_of_refusal (flat_refusal fault) }
+{
+    match fault {
+        FlatFault::SchedTooLarge => plainly(Reason::SchedTooLarge),
+        FlatFault::BadQasm(line) => at_line(Reason::BadQasm, line),
+        FlatFault::Memory => Fault::Memory,
+    }
+}
+
+/// The fault of a request over a schedule text that is not read for this reason.
+pub(crate) fn plan_fault(fault: SchedReadFault) -> Fault
+    ensures { result ≡ fault_of_refusal (plan_refusal fault) }
+{
+    match fault {
+        SchedReadFault::BadSchedule(line) => at_line(Reason::BadSchedule, line),
+        SchedReadFault::Memory => Fault::Memory,
+    }
+}
+
+/// The fault of a request over a hierarchical text that is not read for this reason.
+pub(crate) fn hier_fault(fault: HierFault) -> Fault
+    ensures { result ≡ fault_of_refusal (hier_refusal fault) }
+{
+    match fault {
+        HierFault::BadQasm(line) => at_line(Reason::BadQasm, line),
+        HierFault::TooWide(line) => at_line(Reason::TooWide, line),
+        HierFault::TooLong(line) => at_line(Reason::TooLong, line),
+        HierFault::TooDeep(line) => at_line(Reason::TooDeep, line),
+        HierFault::TooManyInstances(line) => at_line(Reason::TooManyInstances, line),
+        HierFault::Memory => Fault::Memory,
+    }
+}
+
+/// The fault of a request over a deck that has no counts for this reason.
+pub(crate) fn count_fault(fault: TallyFault) -> Fault
+    ensures { result ≡ fault_of_refusal (count_refusal fault) }
+{
+    match fault {
+        TallyFault::CountTooLarge => plainly(Reason::CountTooLarge),
+        TallyFault::Memory => Fault::Memory,
+    }
+}
+
+/// The fault of a request over a deck that has no flat text for this reason.
+pub(crate) fn size_fault(fault: PrepFault) -> Fault
+    ensures { result ≡ fault_of_refusal (size_refusal fault) }
+{
+    match fault {
+        PrepFault::TooManyWires => plainly(Reason::TooManyWires),
+        PrepFault::TooManyGates => plainly(Reason::TooManyGates),
+        PrepFault::Memory => Fault::Memory,
+    }
+}
+
 impl Reason {
     fn weight(&self) -> Weight
         ensures { result ≡ weight_of self.now }
     {
         match self {
-            Reason::SourceTooLarge | Reason::TooManyTokens | Reason::TooNested => Weight::Limit,
+            Reason::SourceTooLarge
+            | Reason::TooManyTokens
+            | Reason::TooNested
+            | Reason::TooWide
+            | Reason::TooLong
+            | Reason::TooDeep
+            | Reason::TooManyInstances
+            | Reason::CountTooLarge
+            | Reason::TooManyWires
+            | Reason::TooManyGates
+            | Reason::SchedTooLarge => Weight::Limit,
             _ => Weight::Refused,
         }
     }
 
     fn name(&self) -> &'static [u8]
         ensures name { result.now ≡ reason_name self.now }
-        ensures short { length result.now ≤ 14 }
+        ensures short { length result.now ≤ 16 }
     {
         match self {
             Reason::SourceTooLarge => b"SourceTooLarge",
@@ -152,6 +241,16 @@ impl Reason {
             Reason::BadWidth => b"BadWidth",
             Reason::NoMain => b"NoMain",
             Reason::Unbuilt => b"Unbuilt",
+            Reason::BadQasm => b"BadQasm",
+            Reason::BadSchedule => b"BadSchedule",
+            Reason::TooWide => b"TooWide",
+            Reason::TooLong => b"TooLong",
+            Reason::TooDeep => b"TooDeep",
+            Reason::TooManyInstances => b"TooManyInstances",
+            Reason::CountTooLarge => b"CountTooLarge",
+            Reason::TooManyWires => b"TooManyWires",
+            Reason::TooManyGates => b"TooManyGates",
+            Reason::SchedTooLarge => b"SchedTooLarge",
         }
     }
 }
@@ -162,7 +261,6 @@ impl Weight {
     {
         match self {
             Weight::Refused => Status::Refused,
-            Weight::Usage => Status::Usage,
             Weight::Limit => Status::Limit,
         }
     }
@@ -195,7 +293,7 @@ impl Fault {
     fn push_text(&self, line: &mut LineBuffer)
         requires { length line.old ≤ 7 }
         ensures text { line.new ≡ line.old ++ fault_text self.now }
-        ensures short { length line.new ≤ length line.old + 37 }
+        ensures short { length line.new ≤ length line.old + 39 }
     {
         match self {
             Fault::Usage => line.push(b"Usage"),
@@ -219,6 +317,11 @@ fn push_at(line: &mut LineBuffer, at: At)
     match at {
         At::Nowhere => {}
         At::InSource(place) => push_place(line, place),
+        At::Line(number) => {
+            line.push(b"line ");
+            line.push_number(number);
+            line.push(b": ");
+        }
     }
 }
 

@@ -4,6 +4,7 @@
 mod array;
 mod arrays;
 mod circuit;
+mod expand;
 mod fault;
 mod flat;
 mod form;
@@ -13,6 +14,7 @@ mod read;
 mod request;
 mod run_all;
 mod status;
+mod verdict;
 
 pub use fault::{At, Fault, Reason, Refusal};
 pub use request::{Request, WordsFault, read_words};

@@ -1,7 +1,7 @@
 //! What the words ask for.
 ghost use Rattle.std.specs.Prelude.{◌≡◌, ◌↔◌, map, Some, None, IfOk, IsErrOf};
 ghost use Rattle.std.specs.Rc.{rc_str_bytes};
-ghost use Rattle.sc_top.specs.Answers.{request, file_request, is_file};
+ghost use Rattle.sc_top.specs.Answers.{request, file_request, check_request, default_limit, is_file};
 
 use sc_base::{Memory, Text};
 use std::alloc::Global;
@@ -12,7 +12,14 @@ use std::rc::RcStr;
 pub enum Request {
     /// The flat text of the source under a name.
     Flat { file: Text },
+    /// The flat text of the hierarchical text under a name, of at most `limit` gates.
+    Expand { file: Text, limit: u64 },
+    /// The verdict on the schedule under the second name, for the gates of the flat text under the first.
+    Check { list: Text, schedule: Text },
 }
+
+/// The most gates of a flat text, where the words name no limit.
+const DEFAULT_LIMIT: u64 = 10_000_000;
 
 /// Why words have no request.
 #[derive(Clone, Copy, Debug, PartialEq, Eq)]
@@ -42,7 +49,7 @@ fn may_name(word: &str) -> bool
     }
 }
 
-/// The request of `flat FILE`.
+/// The request of `flat FILE` or `expand FILE`.
 fn file_words(alloc: Global, mode: &str, file: &str) -> Result<Request, WordsFault>
     ensures asked { IfOk result (λ r. file_request mode.now file.now ≡ Some r) }
     ensures usage { IsErrOf result WordsFault.Usage ↔ (file_request mode.now file.now ≡ None) }
@@ -50,6 +57,26 @@ fn file_words(alloc: Global, mode: &str, file: &str) -> Result<Request, WordsFau
     if mode == "flat" && may_name(file) {
         let file = Text::from_bytes(alloc, file.as_bytes())?;
         Ok(Request::Flat { file })
+    } else if mode == "expand" && may_name(file) {
+        let file = Text::from_bytes(alloc, file.as_bytes())?;
+        Ok(Request::Expand {
+            file,
+            limit: DEFAULT_LIMIT,
+        })
+    } else {
+        Err(WordsFault::Usage)
+    }
+}
+
+/// The request of `check FLAT SCHEDULE`.
+fn check_words(alloc: Global, mode: &str, list: &str, schedule: &str) -> Result<Request, WordsFault>
+    ensures asked { IfOk result (λ r. check_request mode.now list.now schedule.now ≡ Some r) }
+    ensures usage { IsErrOf result WordsFault.Usage ↔ (check_request mode.now list.now schedule.now ≡ None) }
+{
+    if mode == "check" && may_name(list) && may_name(schedule) {
+        let list = Text::from_bytes(alloc, list.as_bytes())?;
+        let schedule = Text::from_bytes(alloc, schedule.as_bytes())?;
+        Ok(Request::Check { list, schedule })
     } else {
         Err(WordsFault::Usage)
     }
@@ -62,6 +89,9 @@ pub fn read_words(alloc: Global, words: &[RcStr]) -> Result<Request, WordsFault>
 {
     match words {
         [mode, file] => file_words(alloc, mode.as_str(), file.as_str()),
+        [mode, list, schedule] => {
+            check_words(alloc, mode.as_str(), list.as_str(), schedule.as_str())
+        }
         _ => Err(WordsFault::Usage),
     }
 }

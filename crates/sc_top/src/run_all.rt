@@ -3,7 +3,8 @@ ghost use Rattle.std.specs.Prelude.{◌≡◌, ◌≤◌, ◌⊎◌, ◌↔◌, 
 ghost use Rattle.std.specs.Rc.{rc_str_bytes};
 ghost use Rattle.sc_base.specs.Causes.{Rose, Stood};
 ghost use Rattle.sc_base.specs.Output.{Wrote, WrotePrefix};
-ghost use Rattle.sc_top.specs.Answers.{request, CarriedOut, Answers, HasOneAnswer, FirstFormIsTyped};
+ghost use Rattle.sc_top.specs.Answers.{request, CarriedOut, Answers, HasOneAnswer};
+ghost use Rattle.sc_top.specs.Circuits.{FirstFormIsTyped};
 ghost use Rattle.sc_top.specs.Carried.{Carried};
 ghost use Rattle.sc_top.specs.Endings.{Output, status_at, is_done, is_early};
 ghost use Rattle.sc_top.specs.Fault.{status_of, fault_line, Tells};
@@ -12,10 +13,12 @@ ghost use Rattle.sc_top.specs.Stages.{Why};
 ghost use Rattle.sc_top.specs.declared.fault.Fault.{Fault as AnyFault};
 ghost use Rattle.sc_top.specs.declared.fault.Refusal.{Refusal};
 
+use crate::expand::carry_expand;
 use crate::fault::Fault;
 use crate::flat::carry_flat;
 use crate::request::{Request, WordsFault, read_words};
 use crate::status::{Ending, Status};
+use crate::verdict::carry_check;
 use sc_base::{Shelf, Sink, write_all};
 use std::alloc::Global;
 use std::rc::RcStr;
@@ -59,6 +62,10 @@ fn carry<F: Shelf, O: Sink>(
 {
     match job {
         Request::Flat { file } => carry_flat(alloc, file.as_bytes(), shelf, out),
+        Request::Expand { file, limit } => carry_expand(alloc, file.as_bytes(), *limit, shelf, out),
+        Request::Check { list, schedule } => {
+            carry_check(alloc, list.as_bytes(), schedule.as_bytes(), shelf, out)
+        }
     }
 }
 
