@@ -1,5 +1,5 @@
 -- What a request that was carried out says of the run. `r` is how it ended.
-use Rattle.std.proofs.Common.{◌≡◌, ℕ, Bool, false, true, IsTrue, List, Option, None, Result, Ok, Err, refl, sym, ◌∙◌, subst, inl, inr, ◌⊎◌}
+use Rattle.std.proofs.Common.{◌≡◌, ◌↔◌, ℕ, Bool, false, true, IsTrue, List, Option, None, Some, Result, Ok, Err, refl, sym, ◌∙◌, ap, subst, inl, inr, ◌⊎◌}
 use Rattle.sc_base.specs.Causes.{Stood}
 use Rattle.sc_base.specs.Output.{Wrote}
 use Rattle.sc_base.proofs.CauseLemmas.{rose-stood}
@@ -8,7 +8,7 @@ use Rattle.sc_top.specs.Carried.{Carried}
 use Rattle.sc_top.specs.Endings.{Output, status_at, is_done}
 use Rattle.sc_top.specs.Fault.{weight_of, weight_status, status_of}
 use Rattle.sc_top.specs.Runs.{status_from, Closed, EndsAs}
-use Rattle.sc_top.specs.Stages.{HasOne}
+use Rattle.sc_top.specs.Stages.{HasOne, Why}
 use Rattle.sc_top.specs.declared.fault.Fault.{Fault}
 use Rattle.sc_top.specs.declared.fault.Fault.TheVariants as fault
 use Rattle.sc_top.specs.declared.fault.Refusal.{Refusal}
@@ -39,7 +39,43 @@ ending_done ending.NotLegal = refl
 not_both : {b : Bool} → b ≡ false → b ≡ true → ⊥
 not_both {b} one other = let impossible : false ≡ true = sym one ∙ other in cc
 
+no_usage_weight : (w : Weight) → weight_status w ≡ status.Usage → ⊥
+no_usage_weight weight.Refused is = cc
+no_usage_weight weight.Limit is = cc
+
+fault_usage : (f : Fault) → status_of f ≡ status.Usage → f ≡ fault.Usage
+fault_usage fault.Usage is = refl
+fault_usage fault.ReadFault is = absurd (let impossible : status.ReadFailed ≡ status.Usage = is in cc)
+fault_usage fault.WriteFault is = absurd (let impossible : status.WriteFailed ≡ status.Usage = is in cc)
+fault_usage fault.Memory is = absurd (let impossible : status.Memory ≡ status.Usage = is in cc)
+fault_usage (fault.Refused refusal) is = absurd (no_usage_weight (weight_of refusal.reason) is)
+
+ending_usage : (e : Ending) → status_at e ≡ status.Usage → ⊥
+ending_usage ending.Done is = cc
+ending_usage ending.NotLegal is = cc
+
+abbrev ended_with : Fault → Result Ending Fault
+ended_with f = Err f
+
+-- the status is `Usage` exactly where the request ended so
+pub run_usage : {N : Type 0} (r : Result Ending Fault) → (r ≡ Err fault.Usage) ↔ N → (status_from r ≡ status.Usage) ↔ N
+run_usage (Ok e) usage = (λ is. absurd (ending_usage e is), λ n. absurd (let impossible : Ok e ≡ ended_with fault.Usage = usage.1 n in cc))
+run_usage (Err f) usage = (λ is. usage.0 (ap ended_with (fault_usage f is)), λ n. ap status_from (usage.1 n))
+
+no_usage : {N R W S : Type 0} {P : Refusal → Type 0} (f : Fault) → Why (N × ⊥) R W S P f → f ≡ fault.Usage → ⊥
+no_usage {N} {R} {W} {S} {P} f why is = (subst (λ (x : Fault). Why (N × ⊥) R W S P x) is why).1
+
+same_end : {f g : Fault} → ended_with f ≡ ended_with g → f ≡ g
+same_end {f} {g} is = cc
+
 -- ---- the clauses
+
+-- a request that is carried out does not end with `Usage`
+pub carried_usage : {F O : Type 0} {held : F → List ℕ → Option (List ℕ)} {tells_held : F → Bool} {shelf_faults : F → ℕ} {tells : O → Bool} {bytes : O → List ℕ} {is_ended : O → Bool} {faults : O → ℕ}
+    {A : (List ℕ → Option (List ℕ)) → Result Output Refusal → Type 0} {shelf_old shelf_new : F} {old new : O} {found : Option Request} {job : Request} (r : Result Ending Fault) → found ≡ Some job →
+    Carried held tells_held shelf_faults tells bytes is_ended faults ⊥ A shelf_old shelf_new old new r → (r ≡ Err fault.Usage) ↔ (found ≡ None)
+carried_usage {job = job} (Ok e) asked c = (λ is. absurd (let impossible : Ok e ≡ ended_with fault.Usage = is in cc), λ none. absurd (let impossible : Some job ≡ None = sym asked ∙ none in cc))
+carried_usage {job = job} (Err f) asked c = (λ is. absurd (no_usage f c.fault (same_end is)), λ none. absurd (let impossible : Some job ≡ None = sym asked ∙ none in cc))
 
 pub run_done : {F O : Type 0} {held : F → List ℕ → Option (List ℕ)} {tells_held : F → Bool} {shelf_faults : F → ℕ} {tells : O → Bool} {bytes : O → List ℕ} {is_ended : O → Bool} {faults : O → ℕ} {N : Type 0}
     {A : (List ℕ → Option (List ℕ)) → Result Output Refusal → Type 0} {shelf_old shelf_new : F} {old new : O} (r : Result Ending Fault) →

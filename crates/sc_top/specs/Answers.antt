@@ -6,10 +6,14 @@ use Rattle.sc_check.specs.declared.finding.Finding.{Finding}
 use Rattle.sc_deck.specs.Events.{flat}
 use Rattle.sc_deck.specs.Modules.{Module}
 use Rattle.sc_gate.specs.Lines.{flat_text}
+use Rattle.sc_read.specs.FlatReads.{IsFlatText}
+use Rattle.sc_read.specs.declared.flat.FlatText.{FlatText}
+use Rattle.sc_sched.specs.Text.{IsTextOf}
+use Rattle.sc_sched.specs.declared.plan.Plan.{Plan}
 use Rattle.sc_top.specs.Carried.{Carried}
-use Rattle.sc_top.specs.Circuits.{IsCircuit}
+use Rattle.sc_top.specs.Circuits.{IsCircuit, IsFirstSource}
 use Rattle.sc_top.specs.Endings.{Output}
-use Rattle.sc_top.specs.Expansions.{whole, IsExpansion}
+use Rattle.sc_top.specs.Expansions.{whole, IsExpansion, IsExpandable}
 use Rattle.sc_top.specs.Fault.{plain}
 use Rattle.sc_top.specs.Stages.{Then, Is, HasOne}
 use Rattle.sc_top.specs.Verdicts.{IsVerdict, judged}
@@ -96,3 +100,23 @@ CarriedOut held tells_held shelf_faults tells bytes is_ended faults job shelf_ol
 -- words have one answer at most
 abbrev pub HasOneAnswer : Type 0
 HasOneAnswer = (held : List ℕ → Option (List ℕ)) (words : List (List ℕ)) → HasOne (Answers held words)
+
+-- ---- texts that are in order
+
+-- a text is held under the name, of at most so many bytes, and this is so of it
+pub record Holds (held : List ℕ → Option (List ℕ)) (most : ℕ) (file : List ℕ) (So : List ℕ → Type 0) : Type 0 where
+  pub text : List ℕ
+  pub holds : held file ≡ Some text
+  pub within : length text ≤ most
+  pub so : So text
+
+-- each text of the request is accepted or in its grammar, and no limit of the request is passed
+abbrev pub AreInOrder : (List ℕ → Option (List ℕ)) → Request → Type 0
+AreInOrder held (Flat file) = Holds held most_source_bytes file IsFirstSource
+AreInOrder held (Expand file limit) = Holds held most_text_bytes file (IsExpandable limit)
+AreInOrder held (Check list schedule) =
+    Holds held most_text_bytes list (λ text. (gates : FlatText) × IsFlatText text gates × Holds held most_text_bytes schedule (λ other. (plan : Plan) × IsTextOf (length gates.gates) other plan))
+
+-- words whose texts are in order have an output
+abbrev pub HaveOutputs : Type 0
+HaveOutputs = (held : List ℕ → Option (List ℕ)) (words : List (List ℕ)) → OfRequest (AreInOrder held) (request words) → (output : Output) × Answers held words (Ok output)

@@ -42,6 +42,10 @@ IsFirst text tokens (Err refusal) = IsOther text tokens × (refusal ≡ plain re
 abbrev pub IsCircuit : List ℕ → Result Circuit Refusal → Type 0
 IsCircuit text = Then (IsTokens text) (λ tokens. Then (IsTree text tokens) (λ tree. Then (IsTyped tree) (λ typed. IsFirst text tokens)))
 
+-- a source of the first form
+abbrev pub IsFirstSource : List ℕ → Type 0
+IsFirstSource text = (tokens : List Token) × (made : Made) × IsLexed text tokens × IsFirstForm text tokens made
+
 -- a source of the first form is in the grammar and well typed
 pub record IsTypedText (text : List ℕ) (tokens : List Token) : Type 0 where
   pub tree : Source

@@ -44,3 +44,8 @@ IsSized limit modules (Err refusal) = IsOversized limit modules refusal
 -- the deck of a text whose flat text is to be written, of at most so many gates
 abbrev pub IsExpansion : ℕ → List ℕ → Result (List Module) Refusal → Type 0
 IsExpansion limit text = Then (IsDeckOf text) (λ modules. Then (IsCounted modules) (λ counted. IsSized limit modules))
+
+-- a hierarchical text whose flat text is within every limit
+abbrev pub IsExpandable : ℕ → List ℕ → Type 0
+IsExpandable limit text =
+    (modules : List Module) × IsHierText text modules × IsWithin (whole_counts modules) × (¬ (ManyWires (fresh_in (whole modules)))) × (length (gates_in (whole modules)) ≤ limit)

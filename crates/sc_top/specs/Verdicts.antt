@@ -1,11 +1,13 @@
 -- The stages from a flat text and a schedule text to a verdict, and its line.
-use Rattle.std.specs.Prelude.{◌≡◌, ℕ, List, ◌++◌, Result, Ok, codes, decimal, length}
+use Rattle.std.specs.Prelude.{◌≡◌, ◌↔◌, ℕ, List, ◌++◌, Result, Ok, codes, decimal, length}
 use Rattle.sc_check.specs.Finding.{finding}
 use Rattle.sc_check.specs.ReadFaults.{IsReadFault}
 use Rattle.sc_check.specs.declared.finding.Finding.{Finding}
 use Rattle.sc_check.specs.declared.finding.Finding.TheVariants.{Legal, Missing, Twice, Early, TooManyRegions, TooWideRegion, MixedKinds}
+use Rattle.sc_gate.specs.declared.gate.Gate.{Gate}
 use Rattle.sc_read.specs.FlatReads.{IsFlatText, IsFlatFault}
 use Rattle.sc_read.specs.declared.flat.FlatText.{FlatText}
+use Rattle.sc_sched.specs.Legal.{IsLegal}
 use Rattle.sc_sched.specs.Text.{IsTextOf}
 use Rattle.sc_sched.specs.declared.plan.Plan.{Plan}
 use Rattle.sc_top.specs.Endings.{Output}
@@ -26,6 +28,10 @@ IsPlan gates text = Gives (IsTextOf gates text) (IsReadFault gates text) plan_re
 -- the verdict on the schedule of the second text, for the gates of the first
 abbrev pub IsVerdict : List ℕ → List ℕ → Result Finding Refusal → Type 0
 IsVerdict flat schedule = Then (IsList flat) (λ list. Then (IsPlan (length list.gates) schedule) (λ plan. Is (Ok (finding list.gates plan))))
+
+-- for a schedule that is read, the verdict is `legal` exactly where the schedule is legal
+abbrev pub VerdictsAreExact : Type 0
+VerdictsAreExact = (text : List ℕ) (gates : List Gate) (plan : Plan) → IsTextOf (length gates) text plan → (finding gates plan ≡ Legal) ↔ IsLegal gates plan.k plan.d plan.steps
 
 -- the line of a verdict
 abbrev pub finding_text : Finding → List ℕ

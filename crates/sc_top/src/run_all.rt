@@ -3,8 +3,9 @@ ghost use Rattle.std.specs.Prelude.{◌≡◌, ◌≤◌, ◌⊎◌, ◌↔◌, 
 ghost use Rattle.std.specs.Rc.{rc_str_bytes};
 ghost use Rattle.sc_base.specs.Causes.{Rose, Stood};
 ghost use Rattle.sc_base.specs.Output.{Wrote, WrotePrefix};
-ghost use Rattle.sc_top.specs.Answers.{request, CarriedOut, Answers, HasOneAnswer};
+ghost use Rattle.sc_top.specs.Answers.{request, CarriedOut, Answers, HasOneAnswer, HaveOutputs};
 ghost use Rattle.sc_top.specs.Circuits.{FirstFormIsTyped};
+ghost use Rattle.sc_top.specs.Verdicts.{VerdictsAreExact};
 ghost use Rattle.sc_top.specs.Carried.{Carried};
 ghost use Rattle.sc_top.specs.Endings.{Output, status_at, is_done, is_early};
 ghost use Rattle.sc_top.specs.Fault.{status_of, fault_line, Tells};
@@ -77,7 +78,7 @@ fn serve<F: Shelf, O: Sink>(
     out: &mut O,
 ) -> Result<Ending, Fault>
     requires { O.is_ended out.old ≡ false }
-    ensures usage { request (map rc_str_bytes words.now) ≡ None → IsErrOf result Fault.Usage ⊎ IsErrOf result Fault.Memory }
+    ensures usage { IsErrOf result Fault.Usage ↔ (request (map rc_str_bytes words.now) ≡ None) }
     ensures carried { let W = map rc_str_bytes words.now in
         Carried F.held F.tells_held F.faults O.tells O.bytes O.is_ended O.faults (request W ≡ None) (λ held. Answers held W) shelf.old shelf.new out.old out.new result }
 {
@@ -90,13 +91,20 @@ fn serve<F: Shelf, O: Sink>(
 
 /// Carries out the words over a shelf of texts, an output and a sink of fault lines, and answers how that ended.
 ///
-/// `flat FILE` writes the flat text of the source under FILE to `out`, and ends it. The refusals, in this order:
-/// `Usage` where the words are anything else; `ReadFailed` where the shelf fails; `Limit` where the source has more
-/// than 16,777,216 bytes; `Refused` or `Limit` where its tokens have a fault, or else where they leave the grammar,
-/// or else where its names and kinds have a fault, the first one each time; `Refused` where it is not of the first
-/// form. `Memory` comes where no memory is found, before the first byte of output. After a refusal `out` is
-/// unchanged. After `WriteFailed`, where the sink fails, `out` has a prefix of the text and is not ended. Where no
-/// whole output stands, one line is written to `err`, which is ended.
+/// `flat FILE` writes the flat text of the source under FILE. `expand FILE` writes the flat text of the hierarchical
+/// text under FILE, of at most 10,000,000 gates. `check FLAT SCHEDULE` writes the verdict on the schedule text under
+/// SCHEDULE, for the gates of the flat text under FLAT: the answer is `Done` where it is legal, and else `NotLegal`.
+/// Each ends `out`.
+///
+/// The refusals, in this order. `Usage`: the words are anything else. `ReadFailed`: the shelf fails. `Limit`: a text
+/// has too many bytes, a source more than 16,777,216 and another text more than 134,217,728; `check` reads both texts
+/// whole before it looks at either. `Refused` or `Limit`: the first fault of the text. For a source that is one of its
+/// tokens, else one of its grammar, else one of its names and kinds, else that it is not of the first form. For another
+/// text it is the first line that is not in its place or passes a limit, and `check` looks at the schedule last.
+/// `Limit` in `expand`: gates, qubits or classical bits pass 2^128 - 1, else qubits or classical bits pass
+/// 4,294,967,295, else the gates pass the limit of the words. `Memory` may come at any point before the first byte of
+/// output. After a refusal `out` is unchanged. After `WriteFailed`, where the sink fails, `out` has a prefix of the
+/// text and is not ended. Where no whole output stands, one line is written to `err`, which is ended.
 pub fn run<F: Shelf, O: Sink, E: Sink>(
     alloc: Global,
     words: &[RcStr],
@@ -127,15 +135,20 @@ pub fn run<F: Shelf, O: Sink, E: Sink>(
     ensures fault { is_done result ≡ false → (fault : AnyFault) × (result ≡ status_of fault) × Tells E.tells E.bytes E.is_ended E.faults err.old err.new (fault_line fault) ×
         Why (request (map rc_str_bytes words.now) ≡ None) (Rose (F.faults shelf.old) (F.faults shelf.new)) (Rose (O.faults out.old) (O.faults out.new)) (Unit {0})
         (λ refusal. IsTrue (F.tells_held shelf.old) → Answers (F.held shelf.old) (map rc_str_bytes words.now) (Err refusal)) fault }
-    ensures usage { request (map rc_str_bytes words.now) ≡ None → (result ≡ Status.Usage) ⊎ (result ≡ Status.Memory) }
+    ensures usage { (result ≡ Status.Usage) ↔ (request (map rc_str_bytes words.now) ≡ None) }
 
     // Where no call of shelf or sink fails, the answer comes, or memory is wanting.
     ensures exact { (answer : Result Output Refusal) → IsTrue (F.tells_held shelf.old) → Answers (F.held shelf.old) (map rc_str_bytes words.now) answer →
         Stood (F.faults shelf.old) (F.faults shelf.new) → Stood (O.faults out.old) (O.faults out.new) →
         (result ≡ Status.Memory) ⊎ EndsAs O.tells O.bytes E.tells E.bytes E.is_ended E.faults out.old out.new err.old err.new result answer }
 
-    // Words have one answer at most, and a source of the first form is in the grammar and well typed.
+    // Words have one answer at most, and an output where their texts are in order. So by `exact` that output comes then,
+    // or memory is wanting.
     ensures one_answer { HasOneAnswer }
+    ensures complete { HaveOutputs }
+
+    // A verdict is `legal` exactly where the schedule is, and a source of the first form is in the grammar and well typed.
+    ensures verdicts { VerdictsAreExact }
     ensures first_form_typed { FirstFormIsTyped }
 {
     let served = serve(alloc, words, shelf, out);

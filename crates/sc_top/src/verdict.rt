@@ -56,9 +56,9 @@ fn judge(alloc: Global, list: &[u8], schedule: &[u8]) -> Result<Finding, Fault>
     requires schedule { length schedule.now ≤ most_text_bytes }
     ensures { Found (IsVerdict list.now schedule.now) result }
 {
-    let gates = read_list(alloc, list)?.gates;
-    let plan = read_plan(alloc, schedule, gates.as_slice())?;
-    match verdict(alloc, gates.as_slice(), &plan) {
+    let list = read_list(alloc, list)?;
+    let plan = read_plan(alloc, schedule, list.gates.as_slice())?;
+    match verdict(alloc, list.gates.as_slice(), &plan) {
         Ok(found) => Ok(found),
         Err(_) => Err(Fault::Memory),
     }
