@@ -9,6 +9,7 @@ use std::test::Fail;
 const ROOM: usize = 1000;
 
 /// What stands in the output and on the fault stream, and the exit status.
+#[derive(Clone, Copy)]
 struct Answer<'a> {
     out: &'a str,
     err: &'a str,

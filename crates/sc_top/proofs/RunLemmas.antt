@@ -8,7 +8,7 @@ use Rattle.sc_top.specs.Carried.{Carried}
 use Rattle.sc_top.specs.Endings.{Output, status_at, is_done}
 use Rattle.sc_top.specs.Fault.{weight_of, weight_status, status_of}
 use Rattle.sc_top.specs.Runs.{status_from, Closed, EndsAs}
-use Rattle.sc_top.specs.Stages.{HasOne, Why}
+use Rattle.sc_top.specs.Stages.{HasOne}
 use Rattle.sc_top.specs.declared.fault.Fault.{Fault}
 use Rattle.sc_top.specs.declared.fault.Fault.TheVariants as fault
 use Rattle.sc_top.specs.declared.fault.Refusal.{Refusal}
@@ -62,20 +62,24 @@ pub run_usage : {N : Type 0} (r : Result Ending Fault) → (r ≡ Err fault.Usag
 run_usage (Ok e) usage = (λ is. absurd (ending_usage e is), λ n. absurd (let impossible : Ok e ≡ ended_with fault.Usage = usage.1 n in cc))
 run_usage (Err f) usage = (λ is. usage.0 (ap ended_with (fault_usage f is)), λ n. ap status_from (usage.1 n))
 
-no_usage : {N R W S : Type 0} {P : Refusal → Type 0} (f : Fault) → Why (N × ⊥) R W S P f → f ≡ fault.Usage → ⊥
-no_usage {N} {R} {W} {S} {P} f why is = (subst (λ (x : Fault). Why (N × ⊥) R W S P x) is why).1
-
 same_end : {f g : Fault} → ended_with f ≡ ended_with g → f ≡ g
 same_end {f} {g} is = cc
 
 -- ---- the clauses
 
+was_asked : {found : Option Request} {job : Request} → found ≡ Some job → found ≡ None → ⊥
+was_asked {found} {job} asked none = let impossible : Some job ≡ None = sym asked ∙ none in cc
+
 -- a request that is carried out does not end with `Usage`
 pub carried_usage : {F O : Type 0} {held : F → List ℕ → Option (List ℕ)} {tells_held : F → Bool} {shelf_faults : F → ℕ} {tells : O → Bool} {bytes : O → List ℕ} {is_ended : O → Bool} {faults : O → ℕ}
     {A : (List ℕ → Option (List ℕ)) → Result Output Refusal → Type 0} {shelf_old shelf_new : F} {old new : O} {found : Option Request} {job : Request} (r : Result Ending Fault) → found ≡ Some job →
     Carried held tells_held shelf_faults tells bytes is_ended faults ⊥ A shelf_old shelf_new old new r → (r ≡ Err fault.Usage) ↔ (found ≡ None)
-carried_usage {job = job} (Ok e) asked c = (λ is. absurd (let impossible : Ok e ≡ ended_with fault.Usage = is in cc), λ none. absurd (let impossible : Some job ≡ None = sym asked ∙ none in cc))
-carried_usage {job = job} (Err f) asked c = (λ is. absurd (no_usage f c.fault (same_end is)), λ none. absurd (let impossible : Some job ≡ None = sym asked ∙ none in cc))
+carried_usage (Ok e) asked c = (λ is. absurd (let impossible : Ok e ≡ ended_with fault.Usage = is in cc), λ none. absurd (was_asked asked none))
+carried_usage (Err fault.Usage) asked c = (λ is. absurd c.fault.1, λ none. absurd (was_asked asked none))
+carried_usage (Err fault.ReadFault) asked c = (λ is. absurd (let impossible : fault.ReadFault ≡ fault.Usage = same_end is in cc), λ none. absurd (was_asked asked none))
+carried_usage (Err fault.WriteFault) asked c = (λ is. absurd (let impossible : fault.WriteFault ≡ fault.Usage = same_end is in cc), λ none. absurd (was_asked asked none))
+carried_usage (Err fault.Memory) asked c = (λ is. absurd (let impossible : fault.Memory ≡ fault.Usage = same_end is in cc), λ none. absurd (was_asked asked none))
+carried_usage (Err (fault.Refused refusal)) asked c = (λ is. absurd (let impossible : fault.Refused refusal ≡ fault.Usage = same_end is in cc), λ none. absurd (was_asked asked none))
 
 pub run_done : {F O : Type 0} {held : F → List ℕ → Option (List ℕ)} {tells_held : F → Bool} {shelf_faults : F → ℕ} {tells : O → Bool} {bytes : O → List ℕ} {is_ended : O → Bool} {faults : O → ℕ} {N : Type 0}
     {A : (List ℕ → Option (List ℕ)) → Result Output Refusal → Type 0} {shelf_old shelf_new : F} {old new : O} (r : Result Ending Fault) →
