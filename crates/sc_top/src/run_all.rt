@@ -4,13 +4,13 @@ ghost use Rattle.std.specs.Rc.{rc_str_bytes};
 ghost use Rattle.sc_base.specs.Causes.{Rose, Stood};
 ghost use Rattle.sc_base.specs.Output.{Wrote, WrotePrefix};
 ghost use Rattle.sc_top.specs.Answers.{request, CarriedOut, Answers, HasOneAnswer, HaveOutputs};
-ghost use Rattle.sc_top.specs.Circuits.{FirstFormIsTyped};
-ghost use Rattle.sc_top.specs.Verdicts.{VerdictsAreExact};
 ghost use Rattle.sc_top.specs.Carried.{Carried};
+ghost use Rattle.sc_top.specs.Circuits.{FirstFormIsTyped};
 ghost use Rattle.sc_top.specs.Endings.{Output, status_at, is_done, is_early};
 ghost use Rattle.sc_top.specs.Fault.{status_of, fault_line, Tells};
 ghost use Rattle.sc_top.specs.Runs.{status_from, Closed, EndsAs};
 ghost use Rattle.sc_top.specs.Stages.{Why};
+ghost use Rattle.sc_top.specs.Verdicts.{VerdictsAreExact};
 ghost use Rattle.sc_top.specs.declared.fault.Fault.{Fault as AnyFault};
 ghost use Rattle.sc_top.specs.declared.fault.Refusal.{Refusal};
 
