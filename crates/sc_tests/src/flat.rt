@@ -9,7 +9,7 @@ use std::test::Fail;
 const ROOM: usize = 1000;
 
 /// The words as the top call takes them.
-fn words(alloc: Global, texts: &[&str]) -> Result<Vec<RcStr>, Fail> {
+pub(crate) fn words(alloc: Global, texts: &[&str]) -> Result<Vec<RcStr>, Fail> {
     let mut words = Vec::new(alloc);
     for text in texts {
         words.push(RcStr::from_str(alloc, *text)?)?;
@@ -216,7 +216,13 @@ fn a_failing_shelf_writes_nothing(rt: HostRuntime) -> Result<(), Fail> {
 }
 
 /// Words that ask for nothing.
-const USAGE: [[&str; 2]; 3] = [["plot", "a"], ["flat", "--keep"], ["hier", "a"]];
+const USAGE: [[&str; 2]; 5] = [
+    ["plot", "a"],
+    ["flat", "--keep"],
+    ["hier", "a"],
+    ["expand", "--keep"],
+    ["check", "a"],
+];
 
 #[test]
 fn other_words_are_usage(rt: HostRuntime) -> Result<(), Fail> {

@@ -6,4 +6,6 @@ mod flat;
 #[cfg(test)]
 mod schedules;
 #[cfg(test)]
+mod texts;
+#[cfg(test)]
 mod types;

@@ -1,107 +1,187 @@
--- A text has one answer at most.
-use Rattle.std.proofs.Common.{◌≡◌, ℕ, ◌≤◌, ◌<◌, List, length, Option, None, Some, refl, sym, ◌∙◌, ap, subst, inl, inr, arith}
-use Rattle.sc_base.specs.Limits.{most_source_bytes}
-use Rattle.sc_syntax.proofs.Once.{no_tokens}
-use Rattle.sc_syntax.specs.declared.Source.{Source}
-use Rattle.sc_syntax.specs.declared.Token.{Token}
+-- Words have one answer at most: each stage has one.
+use Rattle.std.proofs.Common.{◌≡◌, ℕ, ◌<◌, ◌≤◌, ◌^◌, List, length, Option, None, Some, Result, Ok, Err, refl, sym, ◌∙◌, ap, inl, inr, arith}
+use Rattle.sc_base.specs.Limits.{most_gates, most_source_bytes, most_text_bytes}
+use Rattle.sc_check.proofs.TextLaws.{one_schedule_of, no_bad_line, one_bad_line}
+use Rattle.sc_check.specs.ReadFaults.{IsReadFault}
+use Rattle.sc_check.specs.declared.text_reader.SchedReadFault.{SchedReadFault}
+use Rattle.sc_check.specs.declared.text_reader.SchedReadFault.TheVariants as planning
+use Rattle.sc_count.specs.Limits.{IsTooLarge, IsWithin}
+use Rattle.sc_count.specs.declared.counts.Counts.{Counts}
+use Rattle.sc_deck.specs.Modules.{Module}
 use Rattle.sc_parse.proofs.OneFault.{one_fault}
 use Rattle.sc_parse.proofs.OneTree.{one_tree}
-use Rattle.sc_parse.specs.Grammar.{IsRefused, IsTreeOf}
+use Rattle.sc_read.proofs.FlatBody.{one_flat_text, no_bad_flat_line, not_too_many_gates, bad_or_too_many, one_bad_flat_line}
+use Rattle.sc_read.proofs.HierOneWay.{one_hier_text, no_hier_fault, one_hier_fault}
+use Rattle.sc_read.specs.FlatReads.{IsFlatText, IsFlatFault}
+use Rattle.sc_read.specs.HierReads.{IsHierText, IsHierFault}
+use Rattle.sc_read.specs.declared.flat.FlatFault.{FlatFault}
+use Rattle.sc_read.specs.declared.flat.FlatFault.TheVariants as listing
+use Rattle.sc_read.specs.declared.flat.FlatText.{FlatText}
+use Rattle.sc_read.specs.declared.hier.HierFault.TheVariants as reading
+use Rattle.sc_sched.specs.Text.{IsTextOf}
+use Rattle.sc_syntax.proofs.Once.{no_tokens}
+use Rattle.sc_syntax.proofs.SameTokens.{same_tokens, same_fault}
+use Rattle.sc_syntax.specs.Alike.{Alike}
+use Rattle.sc_syntax.specs.Lexing.{IsLexed, HasFault}
+use Rattle.sc_syntax.specs.declared.Source.{Source}
+use Rattle.sc_syntax.specs.declared.Token.{Token}
 use Rattle.sc_types.proofs.OneFault.{one_fault as one_type_fault}
 use Rattle.sc_types.specs.Sources.{fault_of}
-use Rattle.sc_types.specs.declared.fault.TypeFault.{TypeFault}
-use Rattle.sc_top.proofs.FirstForm.{first_form_is_typed}
+use Rattle.sc_types.specs.Typing.{IsWellTyped}
+use Rattle.sc_top.specs.Answers.{IsText, Says, OfRequest, request, HasOneAnswer}
+use Rattle.sc_top.specs.Circuits.{IsTokens, IsTree, IsTyped, IsFirst, IsCircuit, circuit_of}
+use Rattle.sc_top.specs.Endings.{Output}
+use Rattle.sc_top.specs.Expansions.{IsDeckOf, IsCounted, IsOversized, IsSized, IsExpansion, whole_counts}
+use Rattle.sc_top.specs.Fault.{token_refusal, grammar_refusal, type_refusal, flat_refusal, plan_refusal, hier_refusal}
+use Rattle.sc_top.specs.Stages.{HasOne, HasOneLike}
+use Rattle.sc_top.specs.Verdicts.{IsList, IsPlan, IsVerdict}
+use Rattle.sc_top.specs.declared.circuit.Circuit.{Circuit}
+use Rattle.sc_top.specs.declared.fault.Refusal.{Refusal}
+use Rattle.sc_top.specs.declared.request.Request.{Request}
+use Rattle.sc_top.specs.declared.request.Request.TheVariants.{Flat, Expand, Check}
+use Rattle.sc_top.proofs.FewGates.{few_gates}
 use Rattle.sc_top.proofs.OneCircuit.{one_circuit}
-use Rattle.sc_syntax.proofs.SameTokens.{same_tokens, same_fault}
-use Rattle.sc_top.specs.Answers.{HasTree, IsMisparsed, IsMistaken, IsTypedText, IsUnbuilt, IsFirstSource, written, refused, IsAnswer, HasOneAnswer}
-use Rattle.sc_top.specs.Fault.{token_fault, grammar_fault, type_fault}
-use Rattle.sc_top.specs.First.{Made, IsFirstForm}
-use Rattle.sc_top.specs.declared.fault.Fault.{Fault}
-use Rattle.sc_top.specs.declared.fault.Fault.TheVariants.{Usage, ReadFault, SourceTooLarge, At, NoMain, Unbuilt, Memory, WriteFault}
+use Rattle.sc_top.proofs.StageLemmas.{same_some, gives_one, known_fault, then_one_like, then_one, then_from, is_one}
 
--- tokens that are in the grammar do not leave it
-not_misparsed : (text : List ℕ) (fault : Fault) (tokens : List Token) (tree : Source) → HasTree text tokens tree → IsMisparsed fault text → ⊥
-not_misparsed text fault tokens tree inside here =
-    let refusal = subst (λ (ts : List Token). IsRefused text ts here.mistake) (same_tokens here.has.lexed inside.has.lexed) here.refused in
-    one_fault.or_accepted text tokens here.mistake refusal inside.accepted
+abbrev given : (A : Type 0) → A → Result A Refusal
+given A a = Ok a
 
--- two trees of a text have the same first fault, or none
-same_first : (text : List ℕ) (ts us : List Token) (a b : Source) → HasTree text ts a → HasTree text us b → fault_of a ≡ fault_of b
-same_first text ts us a b first second =
-    let derives = subst (λ (ts : List Token). IsTreeOf text ts b) (same_tokens second.has.lexed first.has.lexed) second.derives in
-    one_type_fault a b (one_tree text ts a b first.derives derives)
+abbrev refused : (A : Type 0) → Refusal → Result A Refusal
+refused A refusal = Err refusal
 
-same_mistake : {a b : TypeFault} → Some a ≡ Some b → a ≡ b
-same_mistake {a} {b} is = cc
+not_none : {A : Type 0} {a : A} {found : Option A} → found ≡ Some a → found ≡ None → ⊥
+not_none {A} {a} some none = let impossible : Some a ≡ None = sym some ∙ none in cc
 
-no_mistake : {a : TypeFault} {found : Option TypeFault} → found ≡ Some a → found ≡ None → ⊥
-no_mistake {a} {found} some none = let impossible : Some a ≡ None = sym some ∙ none in cc
+-- refusals of one mistake
+same_mistake : {M : Type 0} {m n : M} {r s : Refusal} (of : M → Option Refusal) → m ≡ n → of m ≡ Some r → of n ≡ Some s → r ≡ s
+same_mistake of same one other = same_some one (ap of same ∙ other)
 
--- a text that is well typed has no fault
-not_mistaken : (text : List ℕ) (fault : Fault) (tokens : List Token) → IsTypedText text tokens → IsMistaken fault text → ⊥
-not_mistaken text fault tokens fine (inl here) = no_tokens text here.mistake tokens here.has fine.has.has.lexed
-not_mistaken text fault tokens fine (inr (inl here)) = not_misparsed text fault tokens fine.tree fine.has here
-not_mistaken text fault tokens fine (inr (inr here)) = no_mistake (sym (same_first text here.tokens tokens here.tree fine.tree here.has fine.has) ∙ here.first) fine.typed
+one_text : (held : List ℕ → Option (List ℕ)) (most : ℕ) (file : List ℕ) → HasOne (IsText held most file)
+one_text held most file (Ok a) (Ok b) (holds, le) (also, other) = ap (given (List ℕ)) (same_some holds also)
+one_text held most file (Ok a) (Err s) (holds, le) (text, also, past, is) = let same = ap length (same_some holds also) in absurd (omega arith)
+one_text held most file (Err r) (Ok b) (text, holds, past, is) (also, le) = let same = ap length (same_some holds also) in absurd (omega arith)
+one_text held most file (Err r) (Err s) (text, holds, past, is) (other, also, more, too) = ap (refused (List ℕ)) (is ∙ sym too)
 
--- a text has one fault at most
-one_mistake : (text : List ℕ) (a b : Fault) → IsMistaken a text → IsMistaken b text → a ≡ b
-one_mistake text a b (inl here) (inl there) = here.is ∙ ap token_fault (same_fault here.has there.has) ∙ sym there.is
-one_mistake text a b (inl here) (inr (inl there)) = absurd (no_tokens text here.mistake there.tokens here.has there.has.lexed)
-one_mistake text a b (inl here) (inr (inr there)) = absurd (no_tokens text here.mistake there.tokens here.has there.has.has.lexed)
-one_mistake text a b (inr (inl here)) (inl there) = absurd (no_tokens text there.mistake here.tokens there.has here.has.lexed)
-one_mistake text a b (inr (inl here)) (inr (inl there)) =
-    let refusal = subst (λ (ts : List Token). IsRefused text ts there.mistake) (same_tokens there.has.lexed here.has.lexed) there.refused in
-    here.is ∙ ap grammar_fault (one_fault.one text here.tokens here.mistake there.mistake here.refused refusal) ∙ sym there.is
-one_mistake text a b (inr (inl here)) (inr (inr there)) = absurd (not_misparsed text a there.tokens there.tree there.has here)
-one_mistake text a b (inr (inr here)) (inl there) = absurd (no_tokens text there.mistake here.tokens there.has here.has.has.lexed)
-one_mistake text a b (inr (inr here)) (inr (inl there)) = absurd (not_misparsed text b here.tokens here.tree here.has there)
-one_mistake text a b (inr (inr here)) (inr (inr there)) =
-    let first = sym here.first ∙ same_first text here.tokens there.tokens here.tree there.tree here.has there.has ∙ there.first in
-    here.is ∙ ap type_fault (same_mistake first) ∙ sym there.is
+-- ---- a source
 
--- ---- how far a text gets
+one_tokens : (text : List ℕ) → HasOne (IsTokens text)
+one_tokens text =
+    gives_one (IsLexed text) (HasFault text) token_refusal (λ a b. same_tokens) (λ tokens mistake r is lexed has. no_tokens text mistake tokens has lexed) (λ m n r s is was. same_fault)
 
--- it is too large, or it has a fault, or it is well typed and not of the first form
-data Why (text : List ℕ) : Fault → Type 0 where
-  large : most_source_bytes < length text → Why text SourceTooLarge
-  mistaken : (fault : Fault) → length text ≤ most_source_bytes → IsMistaken fault text → Why text fault
-  unbuilt : IsUnbuilt text → Why text Unbuilt
+tree_like : (text : List ℕ) (tokens : List Token) → HasOneLike Alike (IsTree text tokens)
+tree_like text tokens = record {
+  one = λ r s (m, has, is) (n, had, was). same_mistake grammar_refusal (one_fault.one text tokens m n has had) is was;
+  apart = λ r tree (m, has, is) (accepted, derives). one_fault.or_accepted text tokens m has accepted;
+  alike = λ a b (accepted, derives) (also, other). one_tree text tokens a b derives other;
+}
 
-within : (text : List ℕ) (fault : Fault) → IsMistaken fault text → length text ≤ most_source_bytes
-within text fault (inl here) = here.within
-within text fault (inr (inl here)) = here.has.within
-within text fault (inr (inr here)) = here.has.has.within
+typed_alike : (a b : Source) → Alike a b → (r : Result (Unit {0}) Refusal) → IsTyped a r → IsTyped b r
+typed_alike a b alike (Ok typed) none = sym (one_type_fault a b alike) ∙ none
+typed_alike a b alike (Err r) (mistake, first, is) = (mistake, sym (one_type_fault a b alike) ∙ first, is)
 
-why : (text : List ℕ) (fault : Fault) → IsAnswer text (refused fault) → Why text fault
-why text Usage (known, cause) = absurd cause
-why text ReadFault (known, cause) = absurd cause
-why text SourceTooLarge (known, cause) = large cause
-why text (At m place) (known, cause) = mistaken (At m place) (within text (At m place) cause) cause
-why text NoMain (known, cause) = mistaken NoMain (within text NoMain cause) cause
-why text Unbuilt (known, cause) = unbuilt cause
-why text Memory (known, cause) = absurd (known refl)
-why text WriteFault (known, cause) = absurd cause
+one_typed : (tree : Source) → HasOne (IsTyped tree)
+one_typed tree =
+    gives_one (λ (typed : Unit {0}). IsWellTyped tree) (λ mistake. fault_of tree ≡ Some mistake) type_refusal (λ a b none also. refl) (λ typed mistake r is none first. not_none first none)
+    (λ m n r s is was. same_some)
 
-one_why : (text : List ℕ) (a b : Fault) → Why text a → Why text b → a ≡ b
-one_why text _ _ (large past) (large other) = refl
-one_why text _ _ (large past) (mistaken b le there) = absurd (omega arith)
-one_why text _ _ (large past) (unbuilt there) = let le = there.typed.has.has.within in absurd (omega arith)
-one_why text _ _ (mistaken a le here) (large past) = absurd (omega arith)
-one_why text _ _ (mistaken a le here) (mistaken b _ there) = one_mistake text a b here there
-one_why text _ _ (mistaken a le here) (unbuilt there) = absurd (not_mistaken text a there.tokens there.typed here)
-one_why text _ _ (unbuilt here) (large past) = let le = here.typed.has.has.within in absurd (omega arith)
-one_why text _ _ (unbuilt here) (mistaken b le there) = absurd (not_mistaken text b here.tokens here.typed there)
-one_why text _ _ (unbuilt here) (unbuilt there) = refl
+one_first : (text : List ℕ) (tokens : List Token) → HasOne (IsFirst text tokens)
+one_first text tokens (Ok a) (Ok b) (made, form, is) (other, also, was) = ap (given Circuit) (is ∙ ap circuit_of (one_circuit text tokens made other form also) ∙ sym was)
+one_first text tokens (Ok a) (Err s) (made, form, is) (other, was) = absurd (other made form)
+one_first text tokens (Err r) (Ok b) (other, is) (made, form, was) = absurd (other made form)
+one_first text tokens (Err r) (Err s) (other, is) (also, was) = ap (refused Circuit) (is ∙ sym was)
 
--- a source of the first form has no fault
-not_why : (text : List ℕ) (made : Made) (fault : Fault) → length text ≤ most_source_bytes → IsFirstSource text made → Why text fault → ⊥
-not_why text made _ le first (large past) = omega arith
-not_why text made _ le first (mistaken fault _ here) = not_mistaken text fault first.tokens (first_form_is_typed text made le first) here
-not_why text made _ le first (unbuilt here) =
-    here.other made (subst (λ (ts : List Token). IsFirstForm text ts made) (same_tokens first.lexed here.typed.has.has.lexed) first.form)
+one_circuit_of : (text : List ℕ) → HasOne (IsCircuit text)
+one_circuit_of text =
+    then_one (one_tokens text) (λ tokens lexed. then_one_like (tree_like text tokens)
+    (λ a b here there alike r s x y. then_one (one_typed b) (λ typed fine. one_first text tokens) r s (then_from (typed_alike a b alike) r x) y))
+
+-- ---- a hierarchical text
+
+one_deck : (text : List ℕ) → HasOne (IsDeckOf text)
+one_deck text =
+    gives_one (IsHierText text) (IsHierFault text) hier_refusal (one_hier_text text)
+    (λ modules f r is read. no_hier_fault text modules f read (known_fault hier_refusal reading.Memory f r refl is))
+    (λ f g r s is was. one_hier_fault text f g (known_fault hier_refusal reading.Memory f r refl is) (known_fault hier_refusal reading.Memory g s refl was))
+
+not_large : (c : Counts) → IsWithin c → IsTooLarge c → ⊥
+not_large c within (inl past) = let le = within.gates in omega arith
+not_large c within (inr (inl past)) = let le = within.weight in omega arith
+not_large c within (inr (inr (inl past))) = let le = within.qubits in omega arith
+not_large c within (inr (inr (inr past))) = let le = within.cbits in omega arith
+
+one_counted : (modules : List Module) → HasOne (IsCounted modules)
+one_counted modules (Ok a) (Ok b) within also = refl
+one_counted modules (Ok a) (Err s) within (large, was) = absurd (not_large (whole_counts modules) within large)
+one_counted modules (Err r) (Ok b) (large, is) within = absurd (not_large (whole_counts modules) within large)
+one_counted modules (Err r) (Err s) (large, is) (also, was) = ap (refused (Unit {0})) (is ∙ sym was)
+
+one_oversize : (limit : ℕ) (modules : List Module) (r s : Refusal) → IsOversized limit modules r → IsOversized limit modules s → r ≡ s
+one_oversize limit modules r s (inl (many, is)) (inl (also, was)) = is ∙ sym was
+one_oversize limit modules r s (inl (many, is)) (inr (narrow, more, was)) = absurd (narrow many)
+one_oversize limit modules r s (inr (narrow, more, is)) (inl (many, was)) = absurd (narrow many)
+one_oversize limit modules r s (inr (narrow, more, is)) (inr (also, too, was)) = is ∙ sym was
+
+one_sized : (limit : ℕ) (modules : List Module) → HasOne (IsSized limit modules)
+one_sized limit modules (Ok a) (Ok b) (narrow, few, is) (also, le, was) = ap (given (List Module)) (is ∙ sym was)
+one_sized limit modules (Ok a) (Err s) (narrow, few, is) (inl (many, was)) = absurd (narrow many)
+one_sized limit modules (Ok a) (Err s) (narrow, few, is) (inr (also, more, was)) = absurd (omega arith)
+one_sized limit modules (Err r) (Ok b) (inl (many, is)) (narrow, few, was) = absurd (narrow many)
+one_sized limit modules (Err r) (Ok b) (inr (also, more, is)) (narrow, few, was) = absurd (omega arith)
+one_sized limit modules (Err r) (Err s) one other = ap (refused (List Module)) (one_oversize limit modules r s one other)
+
+one_expansion : (limit : ℕ) (text : List ℕ) → HasOne (IsExpansion limit text)
+one_expansion limit text = then_one (one_deck text) (λ modules read. then_one (one_counted modules) (λ counted within. one_sized limit modules))
+
+-- ---- a flat text and a schedule
+
+no_list_fault : (text : List ℕ) (list : FlatText) (fault : FlatFault) (r : Refusal) → flat_refusal fault ≡ Some r → IsFlatText text list → IsFlatFault text fault → ⊥
+no_list_fault text list listing.SchedTooLarge r is read many = not_too_many_gates text list read many
+no_list_fault text list (listing.BadQasm line) r is read bad = no_bad_flat_line text list line read bad
+no_list_fault text list listing.Memory r is read has = known_fault flat_refusal listing.Memory listing.Memory r refl is refl
+
+one_list_fault : (text : List ℕ) (f g : FlatFault) (r s : Refusal) → flat_refusal f ≡ Some r → flat_refusal g ≡ Some s → IsFlatFault text f → IsFlatFault text g → f ≡ g
+one_list_fault text listing.SchedTooLarge listing.SchedTooLarge r s is was many also = refl
+one_list_fault text listing.SchedTooLarge (listing.BadQasm n) r s is was many bad = absurd (bad_or_too_many text n bad many)
+one_list_fault text (listing.BadQasm m) listing.SchedTooLarge r s is was bad many = absurd (bad_or_too_many text m bad many)
+one_list_fault text (listing.BadQasm m) (listing.BadQasm n) r s is was bad worse = ap listing.BadQasm (one_bad_flat_line text m n bad worse)
+one_list_fault text listing.Memory g r s is was has had = absurd (known_fault flat_refusal listing.Memory listing.Memory r refl is refl)
+one_list_fault text listing.SchedTooLarge listing.Memory r s is was has had = absurd (known_fault flat_refusal listing.Memory listing.Memory s refl was refl)
+one_list_fault text (listing.BadQasm m) listing.Memory r s is was has had = absurd (known_fault flat_refusal listing.Memory listing.Memory s refl was refl)
+
+one_list : (text : List ℕ) → HasOne (IsList text)
+one_list text = gives_one (IsFlatText text) (IsFlatFault text) flat_refusal (one_flat_text text) (no_list_fault text) (one_list_fault text)
+
+no_plan_fault : (gates : ℕ) (text : List ℕ) → gates < 2 ^ 32 → (plan : _) (fault : SchedReadFault) (r : Refusal) → plan_refusal fault ≡ Some r → IsTextOf gates text plan → IsReadFault gates text fault → ⊥
+no_plan_fault gates text small plan (planning.BadSchedule line) r is read bad = no_bad_line gates text plan line small read bad
+no_plan_fault gates text small plan planning.Memory r is read has = known_fault plan_refusal planning.Memory planning.Memory r refl is refl
+
+one_plan_fault : (gates : ℕ) (text : List ℕ) → gates < 2 ^ 32 → (f g : SchedReadFault) (r s : Refusal) → plan_refusal f ≡ Some r → plan_refusal g ≡ Some s → IsReadFault gates text f → IsReadFault gates text g → f ≡ g
+one_plan_fault gates text small (planning.BadSchedule m) (planning.BadSchedule n) r s is was bad worse = ap planning.BadSchedule (one_bad_line gates text m n small bad worse)
+one_plan_fault gates text small planning.Memory g r s is was has had = absurd (known_fault plan_refusal planning.Memory planning.Memory r refl is refl)
+one_plan_fault gates text small (planning.BadSchedule m) planning.Memory r s is was has had = absurd (known_fault plan_refusal planning.Memory planning.Memory s refl was refl)
+
+one_plan : (gates : ℕ) (text : List ℕ) → gates < 2 ^ 32 → HasOne (IsPlan gates text)
+one_plan gates text small =
+    gives_one (IsTextOf gates text) (IsReadFault gates text) plan_refusal (λ s t. one_schedule_of gates text s t small) (no_plan_fault gates text small) (one_plan_fault gates text small)
+
+small : (n : ℕ) → n ≤ most_gates → n < 2 ^ 32
+small n few = omega arith
+
+one_verdict : (flat schedule : List ℕ) → HasOne (IsVerdict flat schedule)
+one_verdict flat schedule =
+    then_one (one_list flat) (λ list read. then_one (one_plan (length list.gates) schedule (small (length list.gates) (few_gates flat list read))) (λ plan also. is_one _))
+
+-- ---- a request
+
+says_one : (held : List ℕ → Option (List ℕ)) (job : Request) → HasOne (Says held job)
+says_one held (Flat file) = then_one (then_one (one_text held most_source_bytes file) (λ text read. one_circuit_of text)) (λ circuit built. is_one _)
+says_one held (Expand file limit) = then_one (then_one (one_text held most_text_bytes file) (λ text read. one_expansion limit text)) (λ modules sized. is_one _)
+says_one held (Check list schedule) =
+    then_one (then_one (one_text held most_text_bytes list) (λ gates read. then_one (one_text held most_text_bytes schedule) (λ plan also. one_verdict gates plan))) (λ found judged. is_one _)
+
+of_one : (held : List ℕ → Option (List ℕ)) (found : Option Request) (a b : Result Output Refusal) → OfRequest (λ job. Says held job a) found → OfRequest (λ job. Says held job b) found → a ≡ b
+of_one held None a b one other = absurd one
+of_one held (Some job) a b one other = says_one held job a b one other
 
 pub one_answer : HasOneAnswer
-one_answer text (written a) (written b) (_, first) (_, second) = ap written (one_circuit text a b first second)
-one_answer text (written a) (refused b) (le, first) fault = absurd (not_why text a b le first (why text b fault))
-one_answer text (refused a) (written b) fault (le, first) = absurd (not_why text b a le first (why text a fault))
-one_answer text (refused a) (refused b) first second = ap refused (one_why text a b (why text a first) (why text b second))
+one_answer held words a b one other = of_one held (request words) a b one other

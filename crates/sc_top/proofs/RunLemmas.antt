@@ -1,149 +1,112 @@
--- Why a request is refused.
-use Rattle.std.proofs.Common.{◌≡◌, ℕ, ◌≤◌, ◌≢◌, ◌⊎◌, length, List, Option, Some, None, refl, ap, sym, ◌∙◌, subst, inl, inr}
-use Rattle.sc_base.specs.Limits.{most_source_bytes}
-use Rattle.sc_syntax.specs.Lexing.{HasFault}
-use Rattle.sc_syntax.specs.declared.Token.{Token}
-use Rattle.sc_syntax.specs.declared.LexFault.{LexFault}
-use Rattle.sc_syntax.specs.declared.LexFault.TheVariants as lexing
-use Rattle.sc_top.specs.Answers.{request, Asks, IsFirstSource, HasTokens, HasTree, IsTooLarge, IsMisparsed, IsMistyped, IsMistaken, IsUnbuilt, IsWritten, Cause, Answer, written, refused, IsAnswer}
-use Rattle.sc_parse.specs.Grammar.{IsFault as LeavesGrammar}
-use Rattle.sc_parse.specs.declared.source.ParseFault.{ParseFault}
-use Rattle.sc_parse.specs.declared.source.ParseFault.TheVariants as parsing
-use Rattle.sc_syntax.specs.declared.Source.{Source}
-use Rattle.sc_types.specs.Sources.{fault_of}
-use Rattle.sc_types.specs.declared.fault.TypeFault.{TypeFault}
-use Rattle.sc_types.specs.declared.fault.TypeFault.TheVariants as typing
-use Rattle.sc_top.specs.Fault.{status_of, fault_line, token_fault, grammar_fault, type_fault}
-use Rattle.sc_top.specs.First.{Made}
+-- What a request that was carried out says of the run. `r` is how it ended.
+use Rattle.std.proofs.Common.{◌≡◌, ◌↔◌, ℕ, Bool, false, true, IsTrue, List, Option, None, Some, Result, Ok, Err, refl, sym, ◌∙◌, ap, subst, inl, inr, ◌⊎◌}
+use Rattle.sc_base.specs.Causes.{Stood}
+use Rattle.sc_base.specs.Output.{Wrote}
+use Rattle.sc_base.proofs.CauseLemmas.{rose-stood}
+use Rattle.sc_top.specs.Answers.{request, Says, OfRequest, Answers}
+use Rattle.sc_top.specs.Carried.{Carried}
+use Rattle.sc_top.specs.Endings.{Output, status_at, is_done}
+use Rattle.sc_top.specs.Fault.{weight_of, weight_status, status_of}
+use Rattle.sc_top.specs.Runs.{status_from, Closed, EndsAs}
+use Rattle.sc_top.specs.Stages.{HasOne}
 use Rattle.sc_top.specs.declared.fault.Fault.{Fault}
-use Rattle.sc_top.specs.declared.fault.Fault.TheVariants.{Usage, ReadFault, SourceTooLarge, At, NoMain, Unbuilt, Memory, WriteFault}
-use Rattle.sc_top.specs.declared.status.Status.{Status}
+use Rattle.sc_top.specs.declared.fault.Fault.TheVariants as fault
+use Rattle.sc_top.specs.declared.fault.Refusal.{Refusal}
+use Rattle.sc_top.specs.declared.fault.Weight.{Weight}
+use Rattle.sc_top.specs.declared.fault.Weight.TheVariants as weight
+use Rattle.sc_top.specs.declared.request.Request.{Request}
+use Rattle.sc_top.specs.declared.status.Ending.{Ending}
+use Rattle.sc_top.specs.declared.status.Ending.TheVariants as ending
 use Rattle.sc_top.specs.declared.status.Status.TheVariants as status
-use Rattle.sc_top.proofs.OneAnswer.{one_answer}
 
--- a fault of the tokens is why the request is refused
-pub lexing_cause : (fault : LexFault) (source : List ℕ) → length source ≤ most_source_bytes → (fault ≢ lexing.Memory → HasFault source fault) →
-    Cause ⊥ (λ (Says : List ℕ → Type 0). Says source) ⊥ ⊥ (token_fault fault)
-lexing_cause (lexing.BadByte place) source within has = inl (record { within = within; mistake = lexing.BadByte place; has = has (λ is. cc); is = refl })
-lexing_cause (lexing.OpenComment place) source within has = inl (record { within = within; mistake = lexing.OpenComment place; has = has (λ is. cc); is = refl })
-lexing_cause (lexing.BadNumber place) source within has = inl (record { within = within; mistake = lexing.BadNumber place; has = has (λ is. cc); is = refl })
-lexing_cause (lexing.BadDefine place) source within has = inl (record { within = within; mistake = lexing.BadDefine place; has = has (λ is. cc); is = refl })
-lexing_cause (lexing.TooManyTokens place) source within has = inl (record { within = within; mistake = lexing.TooManyTokens place; has = has (λ is. cc); is = refl })
-lexing_cause lexing.Memory source within has = tt
+-- ---- statuses
 
-misparsed : (fault : ParseFault) (text : List ℕ) (tokens : List Token) → HasTokens text tokens → LeavesGrammar text tokens fault → fault ≢ parsing.Memory → IsMisparsed (grammar_fault fault) text
-misparsed fault text tokens has leaves known = record { tokens = tokens; has = has; mistake = fault; refused = record { has = leaves; known = known }; is = refl }
+no_weight_done : (w : Weight) → is_done (weight_status w) ≡ false
+no_weight_done weight.Refused = refl
+no_weight_done weight.Limit = refl
 
--- tokens that leave the grammar are why the request is refused
-pub parsing_cause : (fault : ParseFault) (text : List ℕ) (tokens : List Token) → HasTokens text tokens → LeavesGrammar text tokens fault →
-    Cause ⊥ (λ (Says : List ℕ → Type 0). Says text) ⊥ ⊥ (grammar_fault fault)
-parsing_cause (parsing.Syntax place) text tokens has leaves = inr (inl (misparsed (parsing.Syntax place) text tokens has leaves (λ is. cc)))
-parsing_cause (parsing.TooNested place) text tokens has leaves = inr (inl (misparsed (parsing.TooNested place) text tokens has leaves (λ is. cc)))
-parsing_cause parsing.Memory text tokens has leaves = tt
+fault_not_done : (f : Fault) → is_done (status_of f) ≡ false
+fault_not_done fault.Usage = refl
+fault_not_done fault.ReadFault = refl
+fault_not_done fault.WriteFault = refl
+fault_not_done fault.Memory = refl
+fault_not_done (fault.Refused refusal) = no_weight_done (weight_of refusal.reason)
 
-mistyped : (fault : TypeFault) (text : List ℕ) (tokens : List Token) (tree : Source) → HasTree text tokens tree → fault_of tree ≡ Some fault → IsMistyped (type_fault fault) text
-mistyped fault text tokens tree has first = record { tokens = tokens; tree = tree; has = has; mistake = fault; first = first; is = refl }
+ending_done : (e : Ending) → is_done (status_at e) ≡ true
+ending_done ending.Done = refl
+ending_done ending.NotLegal = refl
 
--- a source that is not well typed is refused for that
-pub typing_cause : (fault : TypeFault) (text : List ℕ) (tokens : List Token) (tree : Source) → HasTree text tokens tree → (fault ≢ typing.Memory → fault_of tree ≡ Some fault) →
-    Cause ⊥ (λ (Says : List ℕ → Type 0). Says text) ⊥ ⊥ (type_fault fault)
-typing_cause (typing.UnknownName place) text tokens tree has first = inr (inr (mistyped (typing.UnknownName place) text tokens tree has (first (λ is. cc))))
-typing_cause (typing.Redefined place) text tokens tree has first = inr (inr (mistyped (typing.Redefined place) text tokens tree has (first (λ is. cc))))
-typing_cause (typing.WrongKind place) text tokens tree has first = inr (inr (mistyped (typing.WrongKind place) text tokens tree has (first (λ is. cc))))
-typing_cause (typing.WrongCount place) text tokens tree has first = inr (inr (mistyped (typing.WrongCount place) text tokens tree has (first (λ is. cc))))
-typing_cause (typing.MeasuredUse place) text tokens tree has first = inr (inr (mistyped (typing.MeasuredUse place) text tokens tree has (first (λ is. cc))))
-typing_cause (typing.BadWidth place) text tokens tree has first = inr (inr (mistyped (typing.BadWidth place) text tokens tree has (first (λ is. cc))))
-typing_cause typing.NoMain text tokens tree has first = inr (inr (mistyped typing.NoMain text tokens tree has (first (λ is. cc))))
-typing_cause typing.Memory text tokens tree has first = tt
+not_both : {b : Bool} → b ≡ false → b ≡ true → ⊥
+not_both {b} one other = let impossible : false ≡ true = sym one ∙ other in cc
 
-asks : {words : List (List ℕ)} {held : List ℕ → Option (List ℕ)} {told : Type 0} {name file : List ℕ} {Says : List ℕ → Type 0} → request words ≡ Some file → name ≡ file →
-    (told → (text : List ℕ) × (held name ≡ Some text) × Says text) → told → Asks held words Says
-asks {held = held} {file = file} asked same says told = record {
-  name = file;
-  text = (says told).0;
-  asked = asked;
-  holds = ap held (sym same) ∙ (says told).1;
-  says = (says told).2;
-}
+no_usage_weight : (w : Weight) → weight_status w ≡ status.Usage → ⊥
+no_usage_weight weight.Refused is = cc
+no_usage_weight weight.Limit is = cc
 
--- the cause of a fault of the file that the words ask for is the cause of the request's
-pub cause_asked : (words : List (List ℕ)) (held : List ℕ → Option (List ℕ)) (told : Type 0) (name file : List ℕ) (R S : Type 0) (fault : Fault) → request words ≡ Some file → name ≡ file →
-    Cause ⊥ (λ (Says : List ℕ → Type 0). told → (text : List ℕ) × (held name ≡ Some text) × Says text) R S fault →
-    Cause (request words ≡ None) (λ (Says : List ℕ → Type 0). told → Asks held words Says) R S fault
-cause_asked words held told name file R S Usage asked same cause = absurd cause
-cause_asked words held told name file R S ReadFault asked same cause = cause
-cause_asked words held told name file R S SourceTooLarge asked same cause = asks asked same cause
-cause_asked words held told name file R S (At m place) asked same cause = asks asked same cause
-cause_asked words held told name file R S NoMain asked same cause = asks asked same cause
-cause_asked words held told name file R S Unbuilt asked same cause = asks asked same cause
-cause_asked words held told name file R S Memory asked same cause = tt
-cause_asked words held told name file R S WriteFault asked same cause = cause
+fault_usage : (f : Fault) → status_of f ≡ status.Usage → f ≡ fault.Usage
+fault_usage fault.Usage is = refl
+fault_usage fault.ReadFault is = absurd (let impossible : status.ReadFailed ≡ status.Usage = is in cc)
+fault_usage fault.WriteFault is = absurd (let impossible : status.WriteFailed ≡ status.Usage = is in cc)
+fault_usage fault.Memory is = absurd (let impossible : status.Memory ≡ status.Usage = is in cc)
+fault_usage (fault.Refused refusal) is = absurd (no_usage_weight (weight_of refusal.reason) is)
 
--- where the shelf tells its texts
-pub cause_told : (told : Type 0) (held : Option (List ℕ)) (R S : Type 0) (fault : Fault) → told →
-    Cause ⊥ (λ (Says : List ℕ → Type 0). told → (text : List ℕ) × (held ≡ Some text) × Says text) R S fault →
-    Cause ⊥ (λ (Says : List ℕ → Type 0). (text : List ℕ) × (held ≡ Some text) × Says text) R S fault
-cause_told told held R S Usage here cause = cause
-cause_told told held R S ReadFault here cause = cause
-cause_told told held R S SourceTooLarge here cause = cause here
-cause_told told held R S (At m place) here cause = cause here
-cause_told told held R S NoMain here cause = cause here
-cause_told told held R S Unbuilt here cause = cause here
-cause_told told held R S Memory here cause = cause
-cause_told told held R S WriteFault here cause = cause
+ending_usage : (e : Ending) → status_at e ≡ status.Usage → ⊥
+ending_usage ending.Done is = cc
+ending_usage ending.NotLegal is = cc
 
-pub same_text : {a b : List ℕ} → Some a ≡ Some b → a ≡ b
-same_text {a} {b} is = cc
+abbrev ended_with : Fault → Result Ending Fault
+ended_with f = Err f
 
--- the fault of a text that is told is its answer
-is_refused : {held : Option (List ℕ)} {text : List ℕ} {answer : Answer} (fault : Fault) (Says : List ℕ → Type 0) → held ≡ Some text → IsAnswer text answer →
-    ((Says text) → IsAnswer text (refused fault)) → (other : List ℕ) × (held ≡ Some other) × Says other → (fault ≡ Memory) ⊎ (answer ≡ refused fault)
-is_refused {text = text} {answer = answer} fault Says holds has says (other, is, said) =
-    inr (one_answer text answer (refused fault) has (says (subst Says (same_text (sym is ∙ holds)) said)))
+-- the status is `Usage` exactly where the request ended so
+pub run_usage : {N : Type 0} (r : Result Ending Fault) → (r ≡ Err fault.Usage) ↔ N → (status_from r ≡ status.Usage) ↔ N
+run_usage (Ok e) usage = (λ is. absurd (ending_usage e is), λ n. absurd (let impossible : Ok e ≡ ended_with fault.Usage = usage.1 n in cc))
+run_usage (Err f) usage = (λ is. usage.0 (ap ended_with (fault_usage f is)), λ n. ap status_from (usage.1 n))
 
--- where no count rose, the fault of a text is its answer, or memory is wanting
-pub answered : {R S : Type 0} {held : Option (List ℕ)} {text : List ℕ} {answer : Answer} → held ≡ Some text → IsAnswer text answer → (R → ⊥) → (S → ⊥) →
-    (fault : Fault) → Cause ⊥ (λ (Says : List ℕ → Type 0). (other : List ℕ) × (held ≡ Some other) × Says other) R S fault → (fault ≡ Memory) ⊎ (answer ≡ refused fault)
-answered holds has read write Usage cause = absurd cause
-answered holds has read write ReadFault cause = absurd (read cause)
-answered holds has read write SourceTooLarge cause = is_refused SourceTooLarge IsTooLarge holds has (λ said. ((λ is. cc), said)) cause
-answered holds has read write (At m place) cause = is_refused (At m place) (IsMistaken (At m place)) holds has (λ said. ((λ is. cc), said)) cause
-answered holds has read write NoMain cause = is_refused NoMain (IsMistaken NoMain) holds has (λ said. ((λ is. cc), said)) cause
-answered holds has read write Unbuilt cause = is_refused Unbuilt IsUnbuilt holds has (λ said. ((λ is. cc), said)) cause
-answered holds has read write Memory cause = inl refl
-answered holds has read write WriteFault cause = absurd (write cause)
+same_end : {f g : Fault} → ended_with f ≡ ended_with g → f ≡ g
+same_end {f} {g} is = cc
 
-not_written : {made : Made} {fault : Fault} → written made ≡ refused fault → ⊥
-not_written {made} {fault} is = cc
+-- ---- the clauses
 
-same_refusal : {a b : Fault} → refused a ≡ refused b → a ≡ b
-same_refusal {a} {b} is = cc
+was_asked : {found : Option Request} {job : Request} → found ≡ Some job → found ≡ None → ⊥
+was_asked {found} {job} asked none = let impossible : Some job ≡ None = sym asked ∙ none in cc
 
--- a source of the first form is not refused: only memory can be wanting where no count rose
-pub only_memory : {R S : Type 0} {held : Option (List ℕ)} {text : List ℕ} {made : Made} → held ≡ Some text → length text ≤ most_source_bytes → IsFirstSource text made → (R → ⊥) → (S → ⊥) →
-    (fault : Fault) → Cause ⊥ (λ (Says : List ℕ → Type 0). (other : List ℕ) × (held ≡ Some other) × Says other) R S fault → status_of fault ≡ status.Memory
-only_memory {made = made} holds within first read write fault cause = elim (answered {answer = written made} holds (within, first) read write fault cause) [
-  | inl is ↦ ap status_of is
-  | inr is ↦ absurd (not_written is)
-]
+-- a request that is carried out does not end with `Usage`
+pub carried_usage : {F O : Type 0} {held : F → List ℕ → Option (List ℕ)} {tells_held : F → Bool} {shelf_faults : F → ℕ} {tells : O → Bool} {bytes : O → List ℕ} {is_ended : O → Bool} {faults : O → ℕ}
+    {A : (List ℕ → Option (List ℕ)) → Result Output Refusal → Type 0} {shelf_old shelf_new : F} {old new : O} {found : Option Request} {job : Request} (r : Result Ending Fault) → found ≡ Some job →
+    Carried held tells_held shelf_faults tells bytes is_ended faults ⊥ A shelf_old shelf_new old new r → (r ≡ Err fault.Usage) ↔ (found ≡ None)
+carried_usage (Ok e) asked c = (λ is. absurd (let impossible : Ok e ≡ ended_with fault.Usage = is in cc), λ none. absurd (was_asked asked none))
+carried_usage (Err fault.Usage) asked c = (λ is. absurd c.fault.1, λ none. absurd (was_asked asked none))
+carried_usage (Err fault.ReadFault) asked c = (λ is. absurd (let impossible : fault.ReadFault ≡ fault.Usage = same_end is in cc), λ none. absurd (was_asked asked none))
+carried_usage (Err fault.WriteFault) asked c = (λ is. absurd (let impossible : fault.WriteFault ≡ fault.Usage = same_end is in cc), λ none. absurd (was_asked asked none))
+carried_usage (Err fault.Memory) asked c = (λ is. absurd (let impossible : fault.Memory ≡ fault.Usage = same_end is in cc), λ none. absurd (was_asked asked none))
+carried_usage (Err (fault.Refused refusal)) asked c = (λ is. absurd (let impossible : fault.Refused refusal ≡ fault.Usage = same_end is in cc), λ none. absurd (was_asked asked none))
 
--- a text that has a fault is refused for it: only memory can be wanting where no count rose
-pub only_this : {R S : Type 0} {held : Option (List ℕ)} {text : List ℕ} {fault : Fault} → held ≡ Some text → IsAnswer text (refused fault) → (R → ⊥) → (S → ⊥) →
-    (found : Fault) → Cause ⊥ (λ (Says : List ℕ → Type 0). (other : List ℕ) × (held ≡ Some other) × Says other) R S found → (found ≡ Memory) ⊎ (found ≡ fault)
-only_this {fault = fault} holds has read write found cause = elim (answered {answer = refused fault} holds has read write found cause) [
-  | inl is ↦ inl is
-  | inr is ↦ inr (sym (same_refusal is))
-]
+pub run_done : {F O : Type 0} {held : F → List ℕ → Option (List ℕ)} {tells_held : F → Bool} {shelf_faults : F → ℕ} {tells : O → Bool} {bytes : O → List ℕ} {is_ended : O → Bool} {faults : O → ℕ} {N : Type 0}
+    {A : (List ℕ → Option (List ℕ)) → Result Output Refusal → Type 0} {shelf_old shelf_new : F} {old new : O} (r : Result Ending Fault) →
+    Carried held tells_held shelf_faults tells bytes is_ended faults N A shelf_old shelf_new old new r → IsTrue (is_done (status_from r)) → IsTrue (tells_held shelf_old) →
+    (output : Output) × A (held shelf_old) (Ok output) × (status_from r ≡ status_at output.ends) × Wrote tells bytes old new output.text
+run_done (Ok e) c is told = let (text, answer, wrote) = c.done.whole told in (record { text = text; ends = e }, answer, refl, wrote)
+run_done (Err f) c is told = absurd (not_both (fault_not_done f) is)
 
--- and nothing is written for it
-pub not_done : {held : Option (List ℕ)} {text : List ℕ} {fault : Fault} {Written : List ℕ → Type 0} → held ≡ Some text → IsAnswer text (refused fault) →
-    (other : List ℕ) × (held ≡ Some other) × IsWritten Written other → ⊥
-not_done {text = text} {fault = fault} {Written = Written} holds has (other, is, done) =
-    let here = subst (IsWritten Written) (same_text (sym is ∙ holds)) done in
-    not_written (one_answer text (written here.made) (refused fault) (here.within, here.first) has)
+pub run_exact : {F O E : Type 0} {held : F → List ℕ → Option (List ℕ)} {tells_held : F → Bool} {shelf_faults : F → ℕ} {tells : O → Bool} {bytes : O → List ℕ} {is_ended : O → Bool} {faults : O → ℕ} {N : Type 0}
+    {A : (List ℕ → Option (List ℕ)) → Result Output Refusal → Type 0} {shelf_old shelf_new : F} {old new : O}
+    {err_tells : E → Bool} {err_bytes : E → List ℕ} {err_ended : E → Bool} {err_faults : E → ℕ} {err_old err_new : E} (r : Result Ending Fault) →
+    Carried held tells_held shelf_faults tells bytes is_ended faults N A shelf_old shelf_new old new r → Closed err_tells err_bytes err_ended err_faults err_old err_new r →
+    HasOne (A (held shelf_old)) → ((answer : Result Output Refusal) → N → A (held shelf_old) answer → ⊥) →
+    (answer : Result Output Refusal) → IsTrue (tells_held shelf_old) → A (held shelf_old) answer → Stood (shelf_faults shelf_old) (shelf_faults shelf_new) → Stood (faults old) (faults new) →
+    (status_from r ≡ status.Memory) ⊎ EndsAs tells bytes err_tells err_bytes err_ended err_faults old new err_old err_new (status_from r) answer
+run_exact {tells = tells} {bytes = bytes} {old = old} {new = new} {err_tells = err_tells} {err_bytes = err_bytes} {err_ended = err_ended} {err_faults = err_faults} {err_old = err_old} {err_new = err_new}
+    (Ok e) c ends one none answer told has shelf_stood out_stood =
+    let (text, this, wrote) = c.done.whole told in inr (subst (λ (a : Result Output Refusal). EndsAs tells bytes err_tells err_bytes err_ended err_faults old new err_old err_new (status_at e) a) (one _ answer this has) (refl, wrote))
+run_exact (Err fault.Usage) c ends one none answer told has shelf_stood out_stood = absurd (none answer c.fault.1 has)
+run_exact {shelf_faults = shelf_faults} {shelf_old = shelf_old} {shelf_new = shelf_new} (Err fault.ReadFault) c ends one none answer told has shelf_stood out_stood =
+    absurd (rose-stood (shelf_faults shelf_old) (shelf_faults shelf_new) c.fault.1 shelf_stood)
+run_exact {faults = faults} {old = old} {new = new} (Err fault.WriteFault) c ends one none answer told has shelf_stood out_stood = absurd (rose-stood (faults old) (faults new) c.fault.0 out_stood)
+run_exact (Err fault.Memory) c ends one none answer told has shelf_stood out_stood = inl refl
+run_exact {tells = tells} {bytes = bytes} {old = old} {new = new} {err_tells = err_tells} {err_bytes = err_bytes} {err_ended = err_ended} {err_faults = err_faults} {err_old = err_old} {err_new = err_new}
+    (Err (fault.Refused refusal)) c ends one none answer told has shelf_stood out_stood =
+    inr (subst (λ (a : Result Output Refusal). EndsAs tells bytes err_tells err_bytes err_ended err_faults old new err_old err_new (status_of (fault.Refused refusal)) a) (one _ answer (c.fault.answer told) has) (refl, ends.told))
 
--- how a request is answered that is refused for one fault, or memory is wanting
-pub refused_for : (Line : List ℕ → Type 0) (result : Status) (found fault : Fault) → result ≡ status_of found → Line (fault_line found) → (found ≡ Memory) ⊎ (found ≡ fault) →
-    (result ≡ status.Memory) ⊎ ((result ≡ status_of fault) × Line (fault_line fault))
-refused_for Line result found fault is line (inl memory) = inl (is ∙ ap status_of memory)
-refused_for Line result found fault is line (inr same) = inr (is ∙ ap status_of same, subst (λ (f : Fault). Line (fault_line f)) same line)
+-- words without a request have no answer
+pub no_answer : (held : List ℕ → Option (List ℕ)) (words : List (List ℕ)) (answer : Result Output Refusal) → request words ≡ None → Answers held words answer → ⊥
+no_answer held words answer none has = subst (λ (found : Option Request). OfRequest (λ job. Says held job answer) found) none has

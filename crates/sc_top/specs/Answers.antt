@@ -1,24 +1,32 @@
 -- What a request is answered.
-use Rattle.std.specs.Prelude.{◌≡◌, ◌≢◌, ℕ, ◌<◌, ◌≤◌, ◌⊎◌, ◌==◌, ◌&&◌, not, Bool, true, List, [], ◌∷◌, Option, None, Some, codes, length, if◌then◌else◌}
+use Rattle.std.specs.Prelude.{◌≡◌, ℕ, ◌<◌, ◌≤◌, ◌==◌, ◌&&◌, not, Bool, true, List, [], ◌∷◌, Option, None, Some, Result, Ok, Err, codes, length, if◌then◌else◌}
 use Rattle.std.specs.Str.{bytes_eq}
-use Rattle.sc_base.specs.Limits.{most_source_bytes}
+use Rattle.sc_base.specs.Limits.{most_source_bytes, most_text_bytes}
+use Rattle.sc_check.specs.declared.finding.Finding.{Finding}
+use Rattle.sc_deck.specs.Events.{flat}
+use Rattle.sc_deck.specs.Modules.{Module}
 use Rattle.sc_gate.specs.Lines.{flat_text}
-use Rattle.sc_syntax.specs.Lexing.{IsLexed, HasFault}
-use Rattle.sc_syntax.specs.declared.LexFault.{LexFault}
-use Rattle.sc_syntax.specs.declared.Token.{Token}
-use Rattle.sc_syntax.specs.declared.Source.{Source}
-use Rattle.sc_parse.specs.Grammar.{IsAccepted, IsTreeOf, IsRefused}
-use Rattle.sc_parse.specs.Pieces.{pieces}
-use Rattle.sc_parse.specs.declared.source.ParseFault.{ParseFault}
-use Rattle.sc_types.specs.Sources.{fault_of}
-use Rattle.sc_types.specs.Typing.{IsWellTyped}
-use Rattle.sc_types.specs.declared.fault.TypeFault.{TypeFault}
-use Rattle.sc_top.specs.Fault.{token_fault, grammar_fault, type_fault}
-use Rattle.sc_top.specs.First.{Made, IsFirstForm}
+use Rattle.sc_read.specs.FlatReads.{IsFlatText}
+use Rattle.sc_read.specs.declared.flat.FlatText.{FlatText}
+use Rattle.sc_sched.specs.Text.{IsTextOf}
+use Rattle.sc_sched.specs.declared.plan.Plan.{Plan}
+use Rattle.sc_top.specs.Carried.{Carried}
+use Rattle.sc_top.specs.Circuits.{IsCircuit, IsFirstSource}
+use Rattle.sc_top.specs.Endings.{Output}
+use Rattle.sc_top.specs.Expansions.{whole, IsExpansion, IsExpandable}
+use Rattle.sc_top.specs.Fault.{plain}
+use Rattle.sc_top.specs.Stages.{Then, Is, HasOne}
+use Rattle.sc_top.specs.Verdicts.{IsVerdict, judged}
+use Rattle.sc_top.specs.declared.circuit.Circuit.{Circuit}
 use Rattle.sc_top.specs.declared.fault.Fault.{Fault}
-use Rattle.sc_top.specs.declared.fault.Fault.TheVariants.{Usage, ReadFault, SourceTooLarge, At, NoMain, Unbuilt, Memory, WriteFault}
+use Rattle.sc_top.specs.declared.fault.Refusal.{Refusal}
+use Rattle.sc_top.specs.declared.fault.Reason.TheVariants as reason
 use Rattle.sc_top.specs.declared.request.Request.{Request}
-use Rattle.sc_top.specs.declared.request.Request.TheVariants.{Flat}
+use Rattle.sc_top.specs.declared.request.Request.TheVariants.{Flat, Expand, Check}
+use Rattle.sc_top.specs.declared.status.Ending.{Ending}
+use Rattle.sc_top.specs.declared.status.Ending.TheVariants as ending
+
+-- ---- the words
 
 -- a name of a file: `-`, the empty word, or a word that does not begin with `-`
 abbrev pub is_file : List ℕ → Bool
@@ -26,120 +34,89 @@ is_file [] = true
 is_file (c ∷ []) = true
 is_file (c ∷ d ∷ rest) = not (c == 45)
 
--- the file that `flat FILE` asks for
-abbrev pub request : List (List ℕ) → Option (List ℕ)
-request (mode ∷ file ∷ []) = if bytes_eq (codes "flat") mode && is_file file then Some file else None
+-- the most gates of a flat text, where the words name no limit
+abbrev pub default_limit : ℕ
+default_limit = 10000000
+
+-- what `flat FILE` or `expand FILE` asks for
+abbrev pub file_request : List ℕ → List ℕ → Option Request
+file_request mode file =
+    if bytes_eq (codes "flat") mode && is_file file then Some (Flat file) else (if bytes_eq (codes "expand") mode && is_file file then Some (Expand file default_limit) else None)
+
+-- what `check FLAT SCHEDULE` asks for
+abbrev pub check_request : List ℕ → List ℕ → List ℕ → Option Request
+check_request mode list schedule = if bytes_eq (codes "check") mode && is_file list && is_file schedule then Some (Check list schedule) else None
+
+-- what words ask for
+abbrev pub request : List (List ℕ) → Option Request
+request (mode ∷ file ∷ []) = file_request mode file
+request (mode ∷ list ∷ schedule ∷ []) = check_request mode list schedule
 request words = None
 
-abbrev pub file_of : Request → List ℕ
-file_of (Flat file) = file
+-- ---- the answer of a request
 
--- a source of the first form: its tokens are, and make these qubits and gates
-pub record IsFirstSource (source : List ℕ) (made : Made) : Type 0 where
-  pub tokens : List Token
-  pub lexed : IsLexed source tokens
-  pub form : IsFirstForm source tokens made
+-- the text under the name, of at most so many bytes; a name under which no text is held has no answer
+abbrev pub IsText : (List ℕ → Option (List ℕ)) → ℕ → List ℕ → Result (List ℕ) Refusal → Type 0
+IsText held most file (Ok text) = (held file ≡ Some text) × (length text ≤ most)
+IsText held most file (Err refusal) = (text : List ℕ) × (held file ≡ Some text) × (most < length text) × (refusal ≡ plain reason.SourceTooLarge)
 
--- the words ask for a text that is held, and this is said of it
-pub record Asks (held : List ℕ → Option (List ℕ)) (words : List (List ℕ)) (Says : List ℕ → Type 0) : Type 0 where
-  pub name : List ℕ
-  pub text : List ℕ
-  pub asked : request words ≡ Some name
-  pub holds : held name ≡ Some text
-  pub says : Says text
+-- the circuit of the source under the name
+abbrev pub FlatOf : (List ℕ → Option (List ℕ)) → List ℕ → Result Circuit Refusal → Type 0
+FlatOf held file = Then (IsText held most_source_bytes file) IsCircuit
 
--- the text has more bytes than a source may have
-abbrev pub IsTooLarge : List ℕ → Type 0
-IsTooLarge text = most_source_bytes < length text
+-- the deck of the hierarchical text under the name, whose flat text has at most so many gates
+abbrev pub ExpansionOf : (List ℕ → Option (List ℕ)) → ℕ → List ℕ → Result (List Module) Refusal → Type 0
+ExpansionOf held limit file = Then (IsText held most_text_bytes file) (IsExpansion limit)
 
--- the tokens of the text have this fault
-pub record IsMisread (fault : Fault) (text : List ℕ) : Type 0 where
-  pub within : length text ≤ most_source_bytes
-  pub mistake : LexFault
-  pub has : HasFault text mistake
-  pub is : fault ≡ token_fault mistake
+-- the verdict on the schedule under the second name, for the gates of the flat text under the first; both texts stand
+-- before either is looked at
+abbrev pub VerdictOf : (List ℕ → Option (List ℕ)) → List ℕ → List ℕ → Result Finding Refusal → Type 0
+VerdictOf held list schedule = Then (IsText held most_text_bytes list) (λ gates. Then (IsText held most_text_bytes schedule) (λ plan. IsVerdict gates plan))
 
--- the text has these tokens
-pub record HasTokens (text : List ℕ) (tokens : List Token) : Type 0 where
-  pub within : length text ≤ most_source_bytes
-  pub lexed : IsLexed text tokens
+abbrev pub done : List ℕ → Output
+done text = record { text = text; ends = ending.Done }
 
--- the tokens of the text leave the grammar with this fault
-pub record IsMisparsed (fault : Fault) (text : List ℕ) : Type 0 where
-  pub tokens : List Token
-  pub has : HasTokens text tokens
-  pub mistake : ParseFault
-  pub refused : IsRefused text tokens mistake
-  pub is : fault ≡ grammar_fault mistake
+-- THE ANSWER of a request over the held texts, where memory is found and no call of shelf or sink fails
+abbrev pub Says : (List ℕ → Option (List ℕ)) → Request → Result Output Refusal → Type 0
+Says held (Flat file) = Then (FlatOf held file) (λ circuit. Is (Ok (done (flat_text circuit.qubits 0 circuit.gates))))
+Says held (Expand file limit) = Then (ExpansionOf held limit file) (λ modules. Is (Ok (done (flat (whole modules)))))
+Says held (Check list schedule) = Then (VerdictOf held list schedule) (λ found. Is (Ok (judged found)))
 
--- the tokens of the text are in the grammar, and this is their tree
-pub record HasTree (text : List ℕ) (tokens : List Token) (tree : Source) : Type 0 where
-  pub has : HasTokens text tokens
-  pub accepted : IsAccepted (pieces text tokens)
-  pub derives : IsTreeOf text tokens tree
+-- ---- the words and their answers
 
--- the text has a tree that is not well typed, and this is its fault
-pub record IsMistyped (fault : Fault) (text : List ℕ) : Type 0 where
-  pub tokens : List Token
-  pub tree : Source
-  pub has : HasTree text tokens tree
-  pub mistake : TypeFault
-  pub first : fault_of tree ≡ Some mistake
-  pub is : fault ≡ type_fault mistake
+-- this is so of the request, where there is one
+abbrev pub OfRequest : (Request → Type 0) → Option Request → Type 0
+OfRequest So None = ⊥
+OfRequest So (Some job) = So job
 
--- the text has this fault in its tokens, or else in its grammar, or else in its names and kinds
-abbrev pub IsMistaken : Fault → List ℕ → Type 0
-IsMistaken fault text = IsMisread fault text ⊎ IsMisparsed fault text ⊎ IsMistyped fault text
+abbrev pub Answers : (List ℕ → Option (List ℕ)) → List (List ℕ) → Result Output Refusal → Type 0
+Answers held words answer = OfRequest (λ job. Says held job answer) (request words)
 
--- the text has a tree that is well typed
-pub record IsTypedText (text : List ℕ) (tokens : List Token) : Type 0 where
-  pub tree : Source
-  pub has : HasTree text tokens tree
-  pub typed : IsWellTyped tree
+-- a request is carried out: the clauses of each function that carries one out
+abbrev pub CarriedOut : {F O : Type 0} → (F → List ℕ → Option (List ℕ)) → (F → Bool) → (F → ℕ) → (O → Bool) → (O → List ℕ) → (O → Bool) → (O → ℕ) → Request → (shelf_old shelf_new : F) → (old new : O) → Result Ending Fault → Type 0
+CarriedOut held tells_held shelf_faults tells bytes is_ended faults job shelf_old shelf_new old new result =
+    Carried held tells_held shelf_faults tells bytes is_ended faults ⊥ (λ texts. Says texts job) shelf_old shelf_new old new result
 
--- the tokens are not of the first form
-abbrev pub IsOther : List ℕ → List Token → Type 0
-IsOther text tokens = (made : Made) → IsFirstForm text tokens made → ⊥
-
--- the text is well typed, but not of the first form
-pub record IsUnbuilt (text : List ℕ) : Type 0 where
-  pub tokens : List Token
-  pub typed : IsTypedText text tokens
-  pub other : IsOther text tokens
-
--- the text is a source of the first form, and its flat text was written
-pub record IsWritten (Written : List ℕ → Type 0) (text : List ℕ) : Type 0 where
-  pub made : Made
-  pub within : length text ≤ most_source_bytes
-  pub first : IsFirstSource text made
-  pub written : Written (flat_text made.qubits 0 made.gates)
-
--- Why a request has this fault. `NoRequest` says that the words ask for nothing, `Text Says` that the text they ask
--- for is told and `Says` is said of it, and the other two that a count of faults rose.
-abbrev pub Cause : Type 0 → ((List ℕ → Type 0) → Type 0) → Type 0 → Type 0 → Fault → Type 0
-Cause NoRequest Text ShelfRose OutRose Usage = NoRequest
-Cause NoRequest Text ShelfRose OutRose ReadFault = ShelfRose
-Cause NoRequest Text ShelfRose OutRose SourceTooLarge = Text IsTooLarge
-Cause NoRequest Text ShelfRose OutRose (At m place) = Text (IsMistaken (At m place))
-Cause NoRequest Text ShelfRose OutRose NoMain = Text (IsMistaken NoMain)
-Cause NoRequest Text ShelfRose OutRose Unbuilt = Text IsUnbuilt
-Cause NoRequest Text ShelfRose OutRose Memory = Unit {0}
-Cause NoRequest Text ShelfRose OutRose WriteFault = OutRose
-
--- what a text is answered, where memory is found and nothing fails
-pub data Answer : Type 0 where
-  written : Made → Answer
-  refused : Fault → Answer
-
--- the text makes this, or it has this fault
-abbrev pub IsAnswer : List ℕ → Answer → Type 0
-IsAnswer text (written made) = (length text ≤ most_source_bytes) × IsFirstSource text made
-IsAnswer text (refused fault) = (fault ≢ Memory) × Cause ⊥ (λ (Says : List ℕ → Type 0). Says text) ⊥ ⊥ fault
-
--- a text has one answer at most
+-- words have one answer at most
 abbrev pub HasOneAnswer : Type 0
-HasOneAnswer = (text : List ℕ) (a b : Answer) → IsAnswer text a → IsAnswer text b → a ≡ b
+HasOneAnswer = (held : List ℕ → Option (List ℕ)) (words : List (List ℕ)) → HasOne (Answers held words)
 
--- a source of the first form is in the grammar and well typed
-abbrev pub FirstFormIsTyped : Type 0
-FirstFormIsTyped = (text : List ℕ) (made : Made) → length text ≤ most_source_bytes → (first : IsFirstSource text made) → IsTypedText text first.tokens
+-- ---- texts that are in order
+
+-- a text is held under the name, of at most so many bytes, and this is so of it
+pub record Holds (held : List ℕ → Option (List ℕ)) (most : ℕ) (file : List ℕ) (So : List ℕ → Type 0) : Type 0 where
+  pub text : List ℕ
+  pub holds : held file ≡ Some text
+  pub within : length text ≤ most
+  pub so : So text
+
+-- each text of the request is accepted or in its grammar, and no limit of the request is passed
+abbrev pub AreInOrder : (List ℕ → Option (List ℕ)) → Request → Type 0
+AreInOrder held (Flat file) = Holds held most_source_bytes file IsFirstSource
+AreInOrder held (Expand file limit) = Holds held most_text_bytes file (IsExpandable limit)
+AreInOrder held (Check list schedule) =
+    Holds held most_text_bytes list (λ text. (gates : FlatText) × IsFlatText text gates × Holds held most_text_bytes schedule (λ other. (plan : Plan) × IsTextOf (length gates.gates) other plan))
+
+-- words whose texts are in order have an output
+abbrev pub HaveOutputs : Type 0
+HaveOutputs = (held : List ℕ → Option (List ℕ)) (words : List (List ℕ)) → OfRequest (AreInOrder held) (request words) → (output : Output) × Answers held words (Ok output)

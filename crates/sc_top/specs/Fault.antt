@@ -1,8 +1,18 @@
--- Why a request is refused, and what it tells.
-use Rattle.std.specs.Prelude.{◌≡◌, ℕ, Bool, true, false, if◌then◌else◌, List, ◌++◌, codes, decimal}
+-- Why a request ends with a fault, and what it tells.
+use Rattle.std.specs.Prelude.{◌≡◌, ℕ, Bool, true, List, [], ◌++◌, Option, None, Some, codes, decimal}
 use Rattle.sc_base.specs.Causes.{Stood}
 use Rattle.sc_base.specs.Output.{Wrote, WrotePrefix}
 use Rattle.sc_base.specs.declared.Place.{Place}
+use Rattle.sc_check.specs.declared.text_reader.SchedReadFault.{SchedReadFault}
+use Rattle.sc_check.specs.declared.text_reader.SchedReadFault.TheVariants as planning
+use Rattle.sc_count.specs.declared.tally.TallyFault.{TallyFault}
+use Rattle.sc_count.specs.declared.tally.TallyFault.TheVariants as counting
+use Rattle.sc_flat.specs.declared.preparing.PrepFault.{PrepFault}
+use Rattle.sc_flat.specs.declared.preparing.PrepFault.TheVariants as sizing
+use Rattle.sc_read.specs.declared.flat.FlatFault.{FlatFault}
+use Rattle.sc_read.specs.declared.flat.FlatFault.TheVariants as listing
+use Rattle.sc_read.specs.declared.hier.HierFault.{HierFault}
+use Rattle.sc_read.specs.declared.hier.HierFault.TheVariants as reading
 use Rattle.sc_syntax.specs.declared.LexFault.{LexFault}
 use Rattle.sc_syntax.specs.declared.LexFault.TheVariants as lexing
 use Rattle.sc_parse.specs.declared.source.ParseFault.{ParseFault}
@@ -10,87 +20,162 @@ use Rattle.sc_parse.specs.declared.source.ParseFault.TheVariants as parsing
 use Rattle.sc_types.specs.declared.fault.TypeFault.{TypeFault}
 use Rattle.sc_types.specs.declared.fault.TypeFault.TheVariants as typing
 use Rattle.sc_top.specs.declared.fault.Fault.{Fault}
-use Rattle.sc_top.specs.declared.fault.Fault.TheVariants.{Usage, ReadFault, SourceTooLarge, At, NoMain, Unbuilt, Memory, WriteFault}
-use Rattle.sc_top.specs.declared.fault.Mistake.{Mistake}
-use Rattle.sc_top.specs.declared.fault.Mistake.TheVariants as mistake
+use Rattle.sc_top.specs.declared.fault.Fault.TheVariants as fault
+use Rattle.sc_top.specs.declared.fault.Refusal.{Refusal}
+use Rattle.sc_top.specs.declared.fault.Reason.{Reason}
+use Rattle.sc_top.specs.declared.fault.Reason.TheVariants as reason
+use Rattle.sc_top.specs.declared.fault.At.{At}
+use Rattle.sc_top.specs.declared.fault.At.TheVariants as at
+use Rattle.sc_top.specs.declared.fault.Weight.{Weight}
+use Rattle.sc_top.specs.declared.fault.Weight.TheVariants as weight
 use Rattle.sc_top.specs.declared.status.Status.{Status}
 use Rattle.sc_top.specs.declared.status.Status.TheVariants as status
 
--- the fault of a request over a source whose tokens have this fault
-abbrev pub token_fault : LexFault → Fault
-token_fault (lexing.BadByte place) = At mistake.BadByte place
-token_fault (lexing.OpenComment place) = At mistake.OpenComment place
-token_fault (lexing.BadNumber place) = At mistake.BadNumber place
-token_fault (lexing.BadDefine place) = At mistake.BadDefine place
-token_fault (lexing.TooManyTokens place) = At mistake.TooManyTokens place
-token_fault lexing.Memory = Memory
+-- ---- the refusals
 
--- the fault of a request over a source whose tokens leave the grammar so
-abbrev pub grammar_fault : ParseFault → Fault
-grammar_fault (parsing.Syntax place) = At mistake.Syntax place
-grammar_fault (parsing.TooNested place) = At mistake.TooNested place
-grammar_fault parsing.Memory = Memory
+abbrev pub plain : Reason → Refusal
+plain name = record { reason = name; at = at.Nowhere }
 
--- the fault of a request over a source that is not well typed for this reason
-abbrev pub type_fault : TypeFault → Fault
-type_fault (typing.UnknownName place) = At mistake.UnknownName place
-type_fault (typing.Redefined place) = At mistake.Redefined place
-type_fault (typing.WrongKind place) = At mistake.WrongKind place
-type_fault (typing.WrongCount place) = At mistake.WrongCount place
-type_fault (typing.MeasuredUse place) = At mistake.MeasuredUse place
-type_fault (typing.BadWidth place) = At mistake.BadWidth place
-type_fault typing.NoMain = NoMain
-type_fault typing.Memory = Memory
+abbrev pub placed : Reason → Place → Refusal
+placed name place = record { reason = name; at = at.InSource place }
 
--- a limit is passed; every other mistake refuses the source
-abbrev pub is_limit : Mistake → Bool
-is_limit mistake.TooManyTokens = true
-is_limit mistake.TooNested = true
-is_limit _ = false
+abbrev pub at_line : Reason → ℕ → Refusal
+at_line name line = record { reason = name; at = at.Line line }
+
+-- a source whose tokens have this fault is refused so
+abbrev pub token_refusal : LexFault → Option Refusal
+token_refusal (lexing.BadByte place) = Some (placed reason.BadByte place)
+token_refusal (lexing.OpenComment place) = Some (placed reason.OpenComment place)
+token_refusal (lexing.BadNumber place) = Some (placed reason.BadNumber place)
+token_refusal (lexing.BadDefine place) = Some (placed reason.BadDefine place)
+token_refusal (lexing.TooManyTokens place) = Some (placed reason.TooManyTokens place)
+token_refusal lexing.Memory = None
+
+-- a source whose tokens leave the grammar so
+abbrev pub grammar_refusal : ParseFault → Option Refusal
+grammar_refusal (parsing.Syntax place) = Some (placed reason.Syntax place)
+grammar_refusal (parsing.TooNested place) = Some (placed reason.TooNested place)
+grammar_refusal parsing.Memory = None
+
+-- a source that is not well typed for this reason
+abbrev pub type_refusal : TypeFault → Option Refusal
+type_refusal (typing.UnknownName place) = Some (placed reason.UnknownName place)
+type_refusal (typing.Redefined place) = Some (placed reason.Redefined place)
+type_refusal (typing.WrongKind place) = Some (placed reason.WrongKind place)
+type_refusal (typing.WrongCount place) = Some (placed reason.WrongCount place)
+type_refusal (typing.MeasuredUse place) = Some (placed reason.MeasuredUse place)
+type_refusal (typing.BadWidth place) = Some (placed reason.BadWidth place)
+type_refusal typing.NoMain = Some (plain reason.NoMain)
+type_refusal typing.Memory = None
+
+-- a flat text that is not read for this reason
+abbrev pub flat_refusal : FlatFault → Option Refusal
+flat_refusal listing.SchedTooLarge = Some (plain reason.SchedTooLarge)
+flat_refusal (listing.BadQasm line) = Some (at_line reason.BadQasm line)
+flat_refusal listing.Memory = None
+
+-- a schedule text that is not read for this reason
+abbrev pub plan_refusal : SchedReadFault → Option Refusal
+plan_refusal (planning.BadSchedule line) = Some (at_line reason.BadSchedule line)
+plan_refusal planning.Memory = None
+
+-- a hierarchical text that is not read for this reason
+abbrev pub hier_refusal : HierFault → Option Refusal
+hier_refusal (reading.BadQasm line) = Some (at_line reason.BadQasm line)
+hier_refusal (reading.TooWide line) = Some (at_line reason.TooWide line)
+hier_refusal (reading.TooLong line) = Some (at_line reason.TooLong line)
+hier_refusal (reading.TooDeep line) = Some (at_line reason.TooDeep line)
+hier_refusal (reading.TooManyInstances line) = Some (at_line reason.TooManyInstances line)
+hier_refusal reading.Memory = None
+
+-- a deck that has no counts for this reason
+abbrev pub count_refusal : TallyFault → Option Refusal
+count_refusal counting.CountTooLarge = Some (plain reason.CountTooLarge)
+count_refusal counting.Memory = None
+
+-- a deck that has no flat text for this reason
+abbrev pub size_refusal : PrepFault → Option Refusal
+size_refusal sizing.TooManyWires = Some (plain reason.TooManyWires)
+size_refusal sizing.TooManyGates = Some (plain reason.TooManyGates)
+size_refusal sizing.Memory = None
+
+-- ---- the status
+
+-- what a reason weighs: a limit is passed, or the text is refused
+abbrev pub weight_of : Reason → Weight
+weight_of reason.SourceTooLarge = weight.Limit
+weight_of reason.TooManyTokens = weight.Limit
+weight_of reason.TooNested = weight.Limit
+weight_of reason.TooWide = weight.Limit
+weight_of reason.TooLong = weight.Limit
+weight_of reason.TooDeep = weight.Limit
+weight_of reason.TooManyInstances = weight.Limit
+weight_of reason.CountTooLarge = weight.Limit
+weight_of reason.TooManyWires = weight.Limit
+weight_of reason.TooManyGates = weight.Limit
+weight_of reason.SchedTooLarge = weight.Limit
+weight_of _ = weight.Refused
+
+abbrev pub weight_status : Weight → Status
+weight_status weight.Refused = status.Refused
+weight_status weight.Limit = status.Limit
 
 abbrev pub status_of : Fault → Status
-status_of Usage = status.Usage
-status_of ReadFault = status.ReadFailed
-status_of SourceTooLarge = status.Limit
-status_of (At m place) = if is_limit m then status.Limit else status.Refused
-status_of NoMain = status.Refused
-status_of Unbuilt = status.Refused
-status_of Memory = status.Memory
-status_of WriteFault = status.WriteFailed
+status_of fault.Usage = status.Usage
+status_of fault.ReadFault = status.ReadFailed
+status_of fault.WriteFault = status.WriteFailed
+status_of fault.Memory = status.Memory
+status_of (fault.Refused refusal) = weight_status (weight_of refusal.reason)
 
-abbrev pub mistake_name : Mistake → List ℕ
-mistake_name mistake.BadByte = codes "BadByte"
-mistake_name mistake.OpenComment = codes "OpenComment"
-mistake_name mistake.BadNumber = codes "BadNumber"
-mistake_name mistake.BadDefine = codes "BadDefine"
-mistake_name mistake.TooManyTokens = codes "TooManyTokens"
-mistake_name mistake.Syntax = codes "Syntax"
-mistake_name mistake.TooNested = codes "TooNested"
-mistake_name mistake.UnknownName = codes "UnknownName"
-mistake_name mistake.Redefined = codes "Redefined"
-mistake_name mistake.WrongKind = codes "WrongKind"
-mistake_name mistake.WrongCount = codes "WrongCount"
-mistake_name mistake.MeasuredUse = codes "MeasuredUse"
-mistake_name mistake.BadWidth = codes "BadWidth"
+-- ---- the line
 
-abbrev pub fault_name : Fault → List ℕ
-fault_name Usage = codes "Usage"
-fault_name ReadFault = codes "ReadFault"
-fault_name SourceTooLarge = codes "SourceTooLarge"
-fault_name (At m place) = mistake_name m
-fault_name NoMain = codes "NoMain"
-fault_name Unbuilt = codes "Unbuilt"
-fault_name Memory = codes "Memory"
-fault_name WriteFault = codes "WriteFault"
+abbrev pub reason_name : Reason → List ℕ
+reason_name reason.SourceTooLarge = codes "SourceTooLarge"
+reason_name reason.BadByte = codes "BadByte"
+reason_name reason.OpenComment = codes "OpenComment"
+reason_name reason.BadNumber = codes "BadNumber"
+reason_name reason.BadDefine = codes "BadDefine"
+reason_name reason.TooManyTokens = codes "TooManyTokens"
+reason_name reason.Syntax = codes "Syntax"
+reason_name reason.TooNested = codes "TooNested"
+reason_name reason.UnknownName = codes "UnknownName"
+reason_name reason.Redefined = codes "Redefined"
+reason_name reason.WrongKind = codes "WrongKind"
+reason_name reason.WrongCount = codes "WrongCount"
+reason_name reason.MeasuredUse = codes "MeasuredUse"
+reason_name reason.BadWidth = codes "BadWidth"
+reason_name reason.NoMain = codes "NoMain"
+reason_name reason.Unbuilt = codes "Unbuilt"
+reason_name reason.BadQasm = codes "BadQasm"
+reason_name reason.BadSchedule = codes "BadSchedule"
+reason_name reason.TooWide = codes "TooWide"
+reason_name reason.TooLong = codes "TooLong"
+reason_name reason.TooDeep = codes "TooDeep"
+reason_name reason.TooManyInstances = codes "TooManyInstances"
+reason_name reason.CountTooLarge = codes "CountTooLarge"
+reason_name reason.TooManyWires = codes "TooManyWires"
+reason_name reason.TooManyGates = codes "TooManyGates"
+reason_name reason.SchedTooLarge = codes "SchedTooLarge"
 
 -- the line, a colon, the column, a colon and a space
 abbrev pub place_text : Place → List ℕ
 place_text place = decimal place.line ++ codes ":" ++ decimal place.column ++ codes ": "
 
--- `scaff: `, the place where the fault has one, and the fault's name, on a line
+abbrev pub at_text : At → List ℕ
+at_text at.Nowhere = []
+at_text (at.InSource place) = place_text place
+at_text (at.Line line) = codes "line " ++ decimal line ++ codes ": "
+
+abbrev pub fault_text : Fault → List ℕ
+fault_text fault.Usage = codes "Usage"
+fault_text fault.ReadFault = codes "ReadFault"
+fault_text fault.WriteFault = codes "WriteFault"
+fault_text fault.Memory = codes "Memory"
+fault_text (fault.Refused refusal) = at_text refusal.at ++ reason_name refusal.reason
+
+-- `scaff: `, where the fault stands, and its name, on a line
 abbrev pub fault_line : Fault → List ℕ
-fault_line (At m place) = codes "scaff: " ++ place_text place ++ mistake_name m ++ codes "\n"
-fault_line fault = codes "scaff: " ++ fault_name fault ++ codes "\n"
+fault_line f = codes "scaff: " ++ fault_text f ++ codes "\n"
 
 -- a prefix of the line was written, and where no fault of the sink was counted the whole line, and the sink is ended
 pub record Tells {S : Type 0} (tells : S → Bool) (bytes : S → List ℕ) (is_ended : S → Bool) (faults : S → ℕ) (old new : S) (line : List ℕ) : Type 0 where

@@ -1,29 +1,46 @@
-//! Why a request is refused.
+//! Why a request ends with a fault.
 ghost use Rattle.std.specs.Prelude.{◌≡◌, ◌≤◌, ◌++◌, length, ◌+◌};
-ghost use Rattle.sc_top.specs.Fault.{status_of, fault_line, fault_name, is_limit, mistake_name, place_text, token_fault, grammar_fault, type_fault};
+ghost use Rattle.sc_top.specs.Fault.{status_of, fault_line, fault_text, reason_name, place_text, at_text, weight_of, weight_status, token_refusal, grammar_refusal, type_refusal, flat_refusal, plan_refusal, hier_refusal, count_refusal, size_refusal};
+ghost use Rattle.sc_top.specs.Stages.{fault_of_refusal};
 
 use crate::status::Status;
 use sc_base::{LineBuffer, Place};
+use sc_check::SchedReadFault;
+use sc_count::TallyFault;
+use sc_flat::PrepFault;
 use sc_parse::ParseFault;
+use sc_read::{FlatFault, HierFault};
 use sc_syntax::LexFault;
 use sc_types::TypeFault;
 
+/// Four faults come from outside the texts. The others refuse a request for what its texts are.
 #[derive(Clone, Copy, Debug, PartialEq, Eq)]
-pub(crate) enum Fault {
+pub enum Fault {
     Usage,
     ReadFault,
-    SourceTooLarge,
-    /// What is wrong with the source, and where.
-    At(Mistake, Place),
-    NoMain,
-    Unbuilt,
-    Memory,
     WriteFault,
+    Memory,
+    Refused(Refusal),
 }
 
-/// What is wrong with a source at a place.
+/// A name, and where it stands.
 #[derive(Clone, Copy, Debug, PartialEq, Eq)]
-pub(crate) enum Mistake {
+pub struct Refusal {
+    pub reason: Reason,
+    pub at: At,
+}
+
+/// Where a refusal stands.
+#[derive(Clone, Copy, Debug, PartialEq, Eq)]
+pub enum At {
+    Nowhere,
+    InSource(Place),
+    Line(u32),
+}
+
+#[derive(Clone, Copy, Debug, PartialEq, Eq)]
+pub enum Reason {
+    SourceTooLarge,
     BadByte,
     OpenComment,
     BadNumber,
@@ -37,78 +54,214 @@ pub(crate) enum Mistake {
     WrongCount,
     MeasuredUse,
     BadWidth,
+    NoMain,
+    Unbuilt,
+    BadQasm,
+    BadSchedule,
+    TooWide,
+    TooLong,
+    TooDeep,
+    TooManyInstances,
+    CountTooLarge,
+    TooManyWires,
+    TooManyGates,
+    SchedTooLarge,
+}
+
+/// The status that a reason leads to.
+#[derive(Clone, Copy, Debug, PartialEq, Eq)]
+pub(crate) enum Weight {
+    Refused,
+    Limit,
+}
+
+/// A refusal that stands nowhere.
+pub(crate) fn plainly(reason: Reason) -> Fault
+    ensures { result ≡ Fault.Refused (record { reason = reason; at = At.Nowhere }) }
+{
+    Fault::Refused(Refusal {
+        reason,
+        at: At::Nowhere,
+    })
+}
+
+fn at_place(reason: Reason, place: Place) -> Fault
+    ensures { result ≡ Fault.Refused (record { reason = reason; at = At.InSource place }) }
+{
+    Fault::Refused(Refusal {
+        reason,
+        at: At::InSource(place),
+    })
+}
+
+fn at_line(reason: Reason, line: u32) -> Fault
+    ensures { result ≡ Fault.Refused (record { reason = reason; at = At.Line line }) }
+{
+    Fault::Refused(Refusal {
+        reason,
+        at: At::Line(line),
+    })
 }
 
 /// The fault of a request over a source whose tokens have this fault.
 pub(crate) fn lexing_fault(fault: LexFault) -> Fault
-    ensures { result ≡ token_fault fault }
+    ensures { result ≡ fault_of_refusal (token_refusal fault) }
 {
     match fault {
-        LexFault::BadByte(place) => Fault::At(Mistake::BadByte, place),
-        LexFault::OpenComment(place) => Fault::At(Mistake::OpenComment, place),
-        LexFault::BadNumber(place) => Fault::At(Mistake::BadNumber, place),
-        LexFault::BadDefine(place) => Fault::At(Mistake::BadDefine, place),
-        LexFault::TooManyTokens(place) => Fault::At(Mistake::TooManyTokens, place),
+        LexFault::BadByte(place) => at_place(Reason::BadByte, place),
+        LexFault::OpenComment(place) => at_place(Reason::OpenComment, place),
+        LexFault::BadNumber(place) => at_place(Reason::BadNumber, place),
+        LexFault::BadDefine(place) => at_place(Reason::BadDefine, place),
+        LexFault::TooManyTokens(place) => at_place(Reason::TooManyTokens, place),
         LexFault::Memory => Fault::Memory,
     }
 }
 
 /// The fault of a request over a source whose tokens leave the grammar so.
 pub(crate) fn parsing_fault(fault: ParseFault) -> Fault
-    ensures { result ≡ grammar_fault fault }
+    ensures { result ≡ fault_of_refusal (grammar_refusal fault) }
 {
     match fault {
-        ParseFault::Syntax(place) => Fault::At(Mistake::Syntax, place),
-        ParseFault::TooNested(place) => Fault::At(Mistake::TooNested, place),
+        ParseFault::Syntax(place) => at_place(Reason::Syntax, place),
+        ParseFault::TooNested(place) => at_place(Reason::TooNested, place),
         ParseFault::Memory => Fault::Memory,
     }
 }
 
 /// The fault of a request over a source that is not well typed for this reason.
 pub(crate) fn typing_fault(fault: TypeFault) -> Fault
-    ensures { result ≡ type_fault fault }
+    ensures { result ≡ fault_of_refusal (type_refusal fault) }
 {
     match fault {
-        TypeFault::UnknownName(place) => Fault::At(Mistake::UnknownName, place),
-        TypeFault::Redefined(place) => Fault::At(Mistake::Redefined, place),
-        TypeFault::WrongKind(place) => Fault::At(Mistake::WrongKind, place),
-        TypeFault::WrongCount(place) => Fault::At(Mistake::WrongCount, place),
-        TypeFault::MeasuredUse(place) => Fault::At(Mistake::MeasuredUse, place),
-        TypeFault::BadWidth(place) => Fault::At(Mistake::BadWidth, place),
-        TypeFault::NoMain => Fault::NoMain,
+        TypeFault::UnknownName(place) => at_place(Reason::UnknownName, place),
+        TypeFault::Redefined(place) => at_place(Reason::Redefined, place),
+        TypeFault::WrongKind(place) => at_place(Reason::WrongKind, place),
+        TypeFault::WrongCount(place) => at_place(Reason::WrongCount, place),
+        TypeFault::MeasuredUse(place) => at_place(Reason::MeasuredUse, place),
+        TypeFault::BadWidth(place) => at_place(Reason::BadWidth, place),
+        TypeFault::NoMain => plainly(Reason::NoMain),
         TypeFault::Memory => Fault::Memory,
     }
 }
 
-impl Mistake {
-    /// Whether a limit is passed.
-    fn is_limit(&self) -> bool
-        ensures { result ≡ is_limit self.now }
+/// The fault of a request over a flat text that is not read for this reason.
+pub(crate) fn flat_fault(fault: FlatFault) -> Fault
+    ensures { result ≡ fault_of_refusal (flat_refusal fault) }
+{
+    match fault {
+        FlatFault::SchedTooLarge => plainly(Reason::SchedTooLarge),
+        FlatFault::BadQasm(line) => at_line(Reason::BadQasm, line),
+        FlatFault::Memory => Fault::Memory,
+    }
+}
+
+/// The fault of a request over a schedule text that is not read for this reason.
+pub(crate) fn plan_fault(fault: SchedReadFault) -> Fault
+    ensures { result ≡ fault_of_refusal (plan_refusal fault) }
+{
+    match fault {
+        SchedReadFault::BadSchedule(line) => at_line(Reason::BadSchedule, line),
+        SchedReadFault::Memory => Fault::Memory,
+    }
+}
+
+/// The fault of a request over a hierarchical text that is not read for this reason.
+pub(crate) fn hier_fault(fault: HierFault) -> Fault
+    ensures { result ≡ fault_of_refusal (hier_refusal fault) }
+{
+    match fault {
+        HierFault::BadQasm(line) => at_line(Reason::BadQasm, line),
+        HierFault::TooWide(line) => at_line(Reason::TooWide, line),
+        HierFault::TooLong(line) => at_line(Reason::TooLong, line),
+        HierFault::TooDeep(line) => at_line(Reason::TooDeep, line),
+        HierFault::TooManyInstances(line) => at_line(Reason::TooManyInstances, line),
+        HierFault::Memory => Fault::Memory,
+    }
+}
+
+/// The fault of a request over a deck that has no counts for this reason.
+pub(crate) fn count_fault(fault: TallyFault) -> Fault
+    ensures { result ≡ fault_of_refusal (count_refusal fault) }
+{
+    match fault {
+        TallyFault::CountTooLarge => plainly(Reason::CountTooLarge),
+        TallyFault::Memory => Fault::Memory,
+    }
+}
+
+/// The fault of a request over a deck that has no flat text for this reason.
+pub(crate) fn size_fault(fault: PrepFault) -> Fault
+    ensures { result ≡ fault_of_refusal (size_refusal fault) }
+{
+    match fault {
+        PrepFault::TooManyWires => plainly(Reason::TooManyWires),
+        PrepFault::TooManyGates => plainly(Reason::TooManyGates),
+        PrepFault::Memory => Fault::Memory,
+    }
+}
+
+impl Reason {
+    fn weight(&self) -> Weight
+        ensures { result ≡ weight_of self.now }
     {
         match self {
-            Mistake::TooManyTokens | Mistake::TooNested => true,
-            _ => false,
+            Reason::SourceTooLarge
+            | Reason::TooManyTokens
+            | Reason::TooNested
+            | Reason::TooWide
+            | Reason::TooLong
+            | Reason::TooDeep
+            | Reason::TooManyInstances
+            | Reason::CountTooLarge
+            | Reason::TooManyWires
+            | Reason::TooManyGates
+            | Reason::SchedTooLarge => Weight::Limit,
+            _ => Weight::Refused,
         }
     }
 
     fn name(&self) -> &'static [u8]
-        ensures name { result.now ≡ mistake_name self.now }
-        ensures short { length result.now ≤ 14 }
+        ensures name { result.now ≡ reason_name self.now }
+        ensures short { length result.now ≤ 16 }
     {
         match self {
-            Mistake::BadByte => b"BadByte",
-            Mistake::OpenComment => b"OpenComment",
-            Mistake::BadNumber => b"BadNumber",
-            Mistake::BadDefine => b"BadDefine",
-            Mistake::TooManyTokens => b"TooManyTokens",
-            Mistake::Syntax => b"Syntax",
-            Mistake::TooNested => b"TooNested",
-            Mistake::UnknownName => b"UnknownName",
-            Mistake::Redefined => b"Redefined",
-            Mistake::WrongKind => b"WrongKind",
-            Mistake::WrongCount => b"WrongCount",
-            Mistake::MeasuredUse => b"MeasuredUse",
-            Mistake::BadWidth => b"BadWidth",
+            Reason::SourceTooLarge => b"SourceTooLarge",
+            Reason::BadByte => b"BadByte",
+            Reason::OpenComment => b"OpenComment",
+            Reason::BadNumber => b"BadNumber",
+            Reason::BadDefine => b"BadDefine",
+            Reason::TooManyTokens => b"TooManyTokens",
+            Reason::Syntax => b"Syntax",
+            Reason::TooNested => b"TooNested",
+            Reason::UnknownName => b"UnknownName",
+            Reason::Redefined => b"Redefined",
+            Reason::WrongKind => b"WrongKind",
+            Reason::WrongCount => b"WrongCount",
+            Reason::MeasuredUse => b"MeasuredUse",
+            Reason::BadWidth => b"BadWidth",
+            Reason::NoMain => b"NoMain",
+            Reason::Unbuilt => b"Unbuilt",
+            Reason::BadQasm => b"BadQasm",
+            Reason::BadSchedule => b"BadSchedule",
+            Reason::TooWide => b"TooWide",
+            Reason::TooLong => b"TooLong",
+            Reason::TooDeep => b"TooDeep",
+            Reason::TooManyInstances => b"TooManyInstances",
+            Reason::CountTooLarge => b"CountTooLarge",
+            Reason::TooManyWires => b"TooManyWires",
+            Reason::TooManyGates => b"TooManyGates",
+            Reason::SchedTooLarge => b"SchedTooLarge",
+        }
+    }
+}
+
+impl Weight {
+    fn status(self) -> Status
+        ensures { result ≡ weight_status self }
+    {
+        match self {
+            Weight::Refused => Status::Refused,
+            Weight::Limit => Status::Limit,
         }
     }
 }
@@ -120,33 +273,9 @@ impl Fault {
         match self {
             Fault::Usage => Status::Usage,
             Fault::ReadFault => Status::ReadFailed,
-            Fault::SourceTooLarge => Status::Limit,
-            Fault::At(mistake, _) => {
-                if mistake.is_limit() {
-                    Status::Limit
-                } else {
-                    Status::Refused
-                }
-            }
-            Fault::NoMain | Fault::Unbuilt => Status::Refused,
-            Fault::Memory => Status::Memory,
             Fault::WriteFault => Status::WriteFailed,
-        }
-    }
-
-    fn name(&self) -> &'static [u8]
-        ensures name { result.now ≡ fault_name self.now }
-        ensures short { length result.now ≤ 14 }
-    {
-        match self {
-            Fault::Usage => b"Usage",
-            Fault::ReadFault => b"ReadFault",
-            Fault::SourceTooLarge => b"SourceTooLarge",
-            Fault::At(mistake, _) => mistake.name(),
-            Fault::NoMain => b"NoMain",
-            Fault::Unbuilt => b"Unbuilt",
-            Fault::Memory => b"Memory",
-            Fault::WriteFault => b"WriteFault",
+            Fault::Memory => Status::Memory,
+            Fault::Refused(refusal) => refusal.reason.weight().status(),
         }
     }
 
@@ -156,18 +285,49 @@ impl Fault {
     {
         let mut line = LineBuffer::new();
         line.push(b"scaff: ");
-        if let Fault::At(_, place) = self {
-            push_place(&mut line, *place);
-        }
-        line.push(self.name());
+        self.push_text(&mut line);
         line.push(b"\n");
         line
+    }
+
+    fn push_text(&self, line: &mut LineBuffer)
+        requires { length line.old ≤ 7 }
+        ensures text { line.new ≡ line.old ++ fault_text self.now }
+        ensures short { length line.new ≤ length line.old + 39 }
+    {
+        match self {
+            Fault::Usage => line.push(b"Usage"),
+            Fault::ReadFault => line.push(b"ReadFault"),
+            Fault::WriteFault => line.push(b"WriteFault"),
+            Fault::Memory => line.push(b"Memory"),
+            Fault::Refused(refusal) => {
+                push_at(line, refusal.at);
+                line.push(refusal.reason.name());
+            }
+        }
+    }
+}
+
+/// Appends where a refusal stands.
+fn push_at(line: &mut LineBuffer, at: At)
+    requires { length line.old ≤ 7 }
+    ensures text { line.new ≡ line.old ++ at_text at }
+    ensures short { length line.new ≤ length line.old + 23 }
+{
+    match at {
+        At::Nowhere => {}
+        At::InSource(place) => push_place(line, place),
+        At::Line(number) => {
+            line.push(b"line ");
+            line.push_number(number);
+            line.push(b": ");
+        }
     }
 }
 
 /// Appends a place, as a line, a column and a space.
 fn push_place(line: &mut LineBuffer, place: Place)
-    requires { length line.old ≤ 40 }
+    requires { length line.old ≤ 7 }
     ensures text { line.new ≡ line.old ++ place_text place }
     ensures short { length line.new ≤ length line.old + 23 }
 {

@@ -3,14 +3,20 @@
 
 mod array;
 mod arrays;
+mod circuit;
+mod expand;
 mod fault;
+mod flat;
 mod form;
 mod maker;
 mod parts;
+mod read;
 mod request;
 mod run_all;
 mod status;
+mod verdict;
 
+pub use fault::{At, Fault, Reason, Refusal};
 pub use request::{Request, WordsFault, read_words};
 pub use run_all::run;
-pub use status::Status;
+pub use status::{Ending, Status};

@@ -1,6 +1,7 @@
 //! How a request ends.
 ghost use Rattle.std.specs.Prelude.{◌≡◌};
 ghost use Rattle.sc_top.specs.Codes.{code_of};
+ghost use Rattle.sc_top.specs.Endings.{status_at};
 
 /// How a request ended. The program's exit status is its `code`.
 #[derive(Clone, Copy, Debug, PartialEq, Eq)]
@@ -17,7 +18,7 @@ pub enum Status {
     Memory,
     /// A limit is passed.
     Limit,
-    /// A schedule was checked, and is not legal.
+    /// A schedule was checked, and is not legal. The whole output stands, and is ended.
     NotLegal,
     /// The sink of the output failed.
     WriteFailed,
@@ -37,6 +38,24 @@ impl Status {
             Status::Limit => 5,
             Status::NotLegal => 6,
             Status::WriteFailed => 7,
+        }
+    }
+}
+
+/// How a request ends whose whole output stands.
+#[derive(Clone, Copy, Debug, PartialEq, Eq)]
+pub enum Ending {
+    Done,
+    NotLegal,
+}
+
+impl Ending {
+    pub(crate) fn status(self) -> Status
+        ensures { result ≡ status_at self }
+    {
+        match self {
+            Ending::Done => Status::Done,
+            Ending::NotLegal => Status::NotLegal,
         }
     }
 }

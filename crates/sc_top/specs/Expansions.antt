@@ -1,0 +1,51 @@
+-- The stages from a hierarchical text to the deck that is written out.
+use Rattle.std.specs.Prelude.{◌≡◌, ℕ, ◌-◌, ◌<◌, ◌≤◌, ◌⊎◌, List, Result, Ok, Err, length, replicate}
+use Rattle.sc_count.specs.Counting.{counts_in}
+use Rattle.sc_count.specs.Limits.{IsTooLarge, IsWithin}
+use Rattle.sc_count.specs.declared.counts.Counts.{Counts}
+use Rattle.sc_deck.specs.Events.{Event, fresh_in, gates_in}
+use Rattle.sc_deck.specs.Modules.{Module}
+use Rattle.sc_deck.specs.Unfolding.{expansion}
+use Rattle.sc_flat.specs.Shown.{ManyWires}
+use Rattle.sc_read.specs.HierReads.{IsHierText, IsHierFault}
+use Rattle.sc_top.specs.Fault.{plain, hier_refusal}
+use Rattle.sc_top.specs.Stages.{Then, Gives}
+use Rattle.sc_top.specs.declared.fault.Refusal.{Refusal}
+use Rattle.sc_top.specs.declared.fault.Reason.TheVariants as reason
+
+-- the deck of a hierarchical text
+abbrev pub IsDeckOf : List ℕ → Result (List Module) Refusal → Type 0
+IsDeckOf text = Gives (IsHierText text) (IsHierFault text) hier_refusal
+
+-- the events of main with all its calls written out
+abbrev pub whole : List Module → List Event
+whole modules = expansion modules (length modules - 1)
+
+-- its counts, where each gate takes the duration 1
+abbrev pub whole_counts : List Module → Counts
+whole_counts modules = counts_in (replicate 18 1) (whole modules)
+
+-- the counts are within their limit
+abbrev pub IsCounted : List Module → Result (Unit {0}) Refusal → Type 0
+IsCounted modules (Ok counted) = IsWithin (whole_counts modules)
+IsCounted modules (Err refusal) = IsTooLarge (whole_counts modules) × (refusal ≡ plain reason.CountTooLarge)
+
+-- a deck whose flat text has too many wires, or else too many gates
+abbrev pub IsOversized : ℕ → List Module → Refusal → Type 0
+IsOversized limit modules refusal =
+    (ManyWires (fresh_in (whole modules)) × (refusal ≡ plain reason.TooManyWires)) ⊎
+    ((¬ (ManyWires (fresh_in (whole modules)))) × (limit < length (gates_in (whole modules))) × (refusal ≡ plain reason.TooManyGates))
+
+-- the deck, where its flat text has not too many wires and at most so many gates
+abbrev pub IsSized : ℕ → List Module → Result (List Module) Refusal → Type 0
+IsSized limit modules (Ok deck) = (¬ (ManyWires (fresh_in (whole modules)))) × (length (gates_in (whole modules)) ≤ limit) × (deck ≡ modules)
+IsSized limit modules (Err refusal) = IsOversized limit modules refusal
+
+-- the deck of a text whose flat text is to be written, of at most so many gates
+abbrev pub IsExpansion : ℕ → List ℕ → Result (List Module) Refusal → Type 0
+IsExpansion limit text = Then (IsDeckOf text) (λ modules. Then (IsCounted modules) (λ counted. IsSized limit modules))
+
+-- a hierarchical text whose flat text is within every limit
+abbrev pub IsExpandable : ℕ → List ℕ → Type 0
+IsExpandable limit text =
+    (modules : List Module) × IsHierText text modules × IsWithin (whole_counts modules) × (¬ (ManyWires (fresh_in (whole modules)))) × (length (gates_in (whole modules)) ≤ limit)
