@@ -4,6 +4,7 @@ use crate::texts::{FLAT, REPEATED};
 use sc_base::MemSink;
 use sc_probe::{KindsProbe, Probe, report_all};
 use std::alloc::Global;
+use std::process::Abort;
 use std::test::Fail;
 
 /// One probe that counts kinds.
@@ -11,6 +12,20 @@ fn kinds(alloc: Global) -> Result<Vec<Box<dyn Probe>>, Fail> {
     let mut probes: Vec<Box<dyn Probe>> = Vec::new(alloc);
     probes.push(Box::new(alloc, KindsProbe::new())?)?;
     Ok(probes)
+}
+
+/// Sees that there is one probe, and that it tells this.
+fn assert_told(
+    rt: &impl Abort,
+    alloc: Global,
+    probes: &[Box<dyn Probe>],
+    want: &str,
+) -> Result<(), Fail> {
+    let told = report_all(alloc, probes)?;
+    let texts = told.as_slice();
+    assert_eq!(rt; texts.len(), 1);
+    assert_eq!(rt; texts[0].as_bytes(), want.as_bytes());
+    Ok(())
 }
 
 /// A sink that takes one byte a call and fails at some call has the bytes before it.
@@ -46,8 +61,7 @@ fn a_fault_in_a_line(rt: HostRuntime) -> Result<(), Fail> {
         let answer = expand(rt.alloc(), REPEATED, 8, &mut out, probes.as_mut_slice());
         assert_eq!(rt; answer, Err(Refusal::Write));
         assert_eq!(rt; out.written(), front.as_bytes());
-        let told = report_all(rt.alloc(), probes.as_slice())?;
-        assert_eq!(rt; told.as_slice()[0].as_bytes(), seen.as_bytes());
+        assert_told(&rt, rt.alloc(), probes.as_slice(), seen)?;
     }
     Ok(())
 }
@@ -80,7 +94,5 @@ fn a_fault_comes_at_once(rt: HostRuntime) -> Result<(), Fail> {
     assert_eq!(rt; answer, Err(Refusal::Write));
     let front = b"flat 1\nqbits 1\ncbits 0\ngates 9223372036854775808\nH q0\nH q0\nH".as_slice();
     assert_eq!(rt; small.written(), front);
-    let told = report_all(rt.alloc(), probes.as_slice())?;
-    assert_eq!(rt; told.as_slice()[0].as_bytes(), b"kinds H=3".as_slice());
-    Ok(())
+    assert_told(&rt, rt.alloc(), probes.as_slice(), "kinds H=3")
 }
