@@ -1,12 +1,12 @@
 -- Why a deck is not written out, and that it is.
-use Rattle.std.proofs.Common.{◌≡◌, ℕ, ◌<◌, ◌≤◌, ◌↔◌, ◌⊎◌, List, length, Result, Ok, Err, refl, inl, inr, arith}
+use Rattle.std.proofs.Common.{◌≡◌, ℕ, ◌<◌, ◌≤◌, List, length, Ok, Err, refl, inl, inr}
 use Rattle.std.proofs.lemmas.Bool.{cases_lt}
 use Rattle.sc_count.specs.Limits.{IsTooLarge, IsWithin}
 use Rattle.sc_count.specs.declared.tally.TallyFault.{TallyFault}
 use Rattle.sc_count.specs.declared.tally.TallyFault.TheVariants as counting
 use Rattle.sc_deck.specs.Events.{fresh_in, gates_in}
 use Rattle.sc_deck.specs.Modules.{Module}
-use Rattle.sc_flat.specs.Shown.{ManyWires, Prepared}
+use Rattle.sc_flat.specs.Shown.{ManyWires}
 use Rattle.sc_flat.specs.declared.preparing.PrepFault.{PrepFault}
 use Rattle.sc_flat.specs.declared.preparing.PrepFault.TheVariants as sizing
 use Rattle.sc_top.specs.Expansions.{whole, whole_counts, IsCounted, IsSized}

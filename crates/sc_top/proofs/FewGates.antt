@@ -1,5 +1,5 @@
 -- A flat text that is read has at most 4,194,304 gates.
-use Rattle.std.proofs.Common.{◌≡◌, ℕ, suc, ◌+◌, ◌≤◌, List, [], ◌∷◌, ◌++◌, length, refl, sym, ap, subst, arith, length-append, inl, inr}
+use Rattle.std.proofs.Common.{◌≡◌, ℕ, suc, ◌+◌, ◌≤◌, List, [], ◌∷◌, ◌++◌, length, refl, sym, subst, arith, length-append, inl, inr}
 use Rattle.sc_base.specs.Limits.{most_gates}
 use Rattle.sc_base.specs.Lines.{GoThrough}
 use Rattle.sc_gate.specs.declared.gate.Gate.{Gate}

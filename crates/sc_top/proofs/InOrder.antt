@@ -1,5 +1,5 @@
 -- Texts that are in order have an output, and verdicts are exact.
-use Rattle.std.proofs.Common.{◌≡◌, ℕ, ◌<◌, List, length, Option, None, Some, Ok, refl, subst}
+use Rattle.std.proofs.Common.{ℕ, ◌<◌, List, length, Option, None, Some, Ok, refl, subst}
 use Rattle.std.specs.Prelude.{All}
 use Rattle.sc_check.proofs.Breaches.{legal_from, legal_to}
 use Rattle.sc_check.specs.Finding.{finding}

@@ -1,5 +1,5 @@
 -- Words have one answer at most: each stage has one.
-use Rattle.std.proofs.Common.{◌≡◌, ℕ, ◌<◌, ◌≤◌, ◌^◌, ◌⊎◌, List, length, Option, None, Some, Result, Ok, Err, refl, sym, ◌∙◌, ap, inl, inr, arith}
+use Rattle.std.proofs.Common.{◌≡◌, ℕ, ◌<◌, ◌≤◌, ◌^◌, List, length, Option, None, Some, Result, Ok, Err, refl, sym, ◌∙◌, ap, inl, inr, arith}
 use Rattle.sc_base.specs.Limits.{most_gates, most_source_bytes, most_text_bytes}
 use Rattle.sc_check.proofs.TextLaws.{one_schedule_of, no_bad_line, one_bad_line}
 use Rattle.sc_check.specs.ReadFaults.{IsReadFault}

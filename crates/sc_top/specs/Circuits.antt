@@ -1,5 +1,5 @@
 -- The stages from a source to its circuit.
-use Rattle.std.specs.Prelude.{◌≡◌, ℕ, List, Option, Some, Result, Ok, Err}
+use Rattle.std.specs.Prelude.{◌≡◌, ℕ, List, Some, Result, Ok, Err}
 use Rattle.sc_syntax.specs.Lexing.{IsLexed, HasFault}
 use Rattle.sc_syntax.specs.declared.Source.{Source}
 use Rattle.sc_syntax.specs.declared.Token.{Token}
