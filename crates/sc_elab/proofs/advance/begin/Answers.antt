@@ -1,0 +1,230 @@
+use Rattle.std.proofs.Common.{◌≡◌, None, refl, sym, ap, ◌∙◌, subst, length}
+use Rattle.std.specs.Prelude.{map, option_map}
+use Rattle.std.specs.Option.{option_copied}
+use Rattle.std.proofs.lemmas.Result.{err_from_is_err_and, IfOk-weaker, IfErr-weaker}
+use Rattle.sc_syntax.specs.declared.Act.{Act}
+use Rattle.sc_syntax.specs.Alike.{pure_expr, pure_decl, pure_init, pure_act}
+use Rattle.sc_types.specs.Accepted.{Taken}
+use Rattle.sc_elab.specs.Fine.{taken_by_source, IsFineAct, AreFineStmts}
+use Rattle.sc_elab.specs.Frames.{view}
+use Rattle.sc_elab.specs.Gating.{measure_on, call_on}
+use Rattle.sc_elab.specs.declared.todo.Rounds.{Rounds}
+use Rattle.sc_elab.specs.Pending.{if_on, for_on, block_on}
+use Rattle.sc_meaning.specs.Programs.{program_of}
+use Rattle.sc_meaning.specs.Run.{act, declare_wires, declare_numbers, set_number}
+use Rattle.sc_syntax.specs.Alike.{pure_stmt_list}
+use Rattle.sc_elab.proofs.Beginning.{begun_still, begun_from, stops_from, act_wires, act_numbers, act_set, act_measure, act_empty, act_called, act_if, act_for, act_block, fine_if, fine_for, fine_block}
+use Rattle.sc_elab.proofs.Keeping.{keeps_wires, keeps_numbers, keeps_set, begun_runs}
+use Rattle.sc_elab.proofs.PendingLaws.{advanced_from}
+use Rattle.sc_elab.proofs.StatementParts.{always, act_done, act_refused, advanced_none, begun_others, FineIf, FineFor, while_advanced, while_begun}
+use Rattle.sc_elab.proofs.advance.begin.Goals as goal
+
+-- ---- wires
+
+pub returns-in_ok-declare_wires-in-Wires-clause-ok : goal.returns-in_ok-declare_wires-in-Wires-clause-ok
+returns-in_ok-declare_wires-in-Wires-clause-ok c =
+    act_done (program_of c.args.given.checked.now) c.args.given.choice c.args.at c.args.task.now (declare_wires c.in-Wires.class (map pure_decl c.as_slice.result.now) (view c.args.frame.now))
+    c.args.frame.now c.declare_wires.new.frame c.args.todo.now.items
+    (λ call. act_wires (program_of c.args.given.checked.now) call c.args.at c.args.task.now c.in-Wires.class c.in-Wires.decls c.as_slice.result.now (view c.args.frame.now) c.in-Wires.is c.as_slice.ensures)
+    (c.in_ok-declare_wires-in-Wires.ensures.ok c.args.given.choice)
+
+pub returns-in_ok-declare_wires-in-Wires-clause-begun : goal.returns-in_ok-declare_wires-in-Wires-clause-begun
+returns-in_ok-declare_wires-in-Wires-clause-begun c =
+    let f = c.args.frame.now in
+    begun_runs (λ taken. IsFineAct taken (pure_act c.args.task.now)) c.args.given.choice (declare_wires c.in-Wires.class (map pure_decl c.as_slice.result.now) (view f)) f c.declare_wires.new.frame c.args.todo.now.items
+    (keeps_wires f.steps (length f.numbers) c.in-Wires.class (map pure_decl c.as_slice.result.now) (view f) refl refl)
+    (c.in_ok-declare_wires-in-Wires.ensures.ok c.args.given.choice)
+
+pub returns-in_err-declare_wires-in-Wires-clause-err : goal.returns-in_err-declare_wires-in-Wires-clause-err
+returns-in_err-declare_wires-in-Wires-clause-err c =
+    let p = err_from_is_err_and c.from_residual.result c.from_residual.ensures.1 in
+    rw (p.1, p.2) (λ other.
+    act_refused (program_of c.args.given.checked.now) c.args.given.choice c.args.at c.args.task.now (declare_wires c.in-Wires.class (map pure_decl c.as_slice.result.now) (view c.args.frame.now)) c.args.frame.now _
+    (λ call. act_wires (program_of c.args.given.checked.now) call c.args.at c.args.task.now c.in-Wires.class c.in-Wires.decls c.as_slice.result.now (view c.args.frame.now) c.in-Wires.is c.as_slice.ensures)
+    (c.in_err-declare_wires-in-Wires.ensures.err other c.args.given.choice))
+
+-- ---- numbers
+
+pub returns-in_ok-declare_numbers-in-Numbers-clause-ok : goal.returns-in_ok-declare_numbers-in-Numbers-clause-ok
+returns-in_ok-declare_numbers-in-Numbers-clause-ok c =
+    act_done (program_of c.args.given.checked.now) c.args.given.choice c.args.at c.args.task.now (declare_numbers c.in-Numbers.sort (map pure_init c.as_slice-in-Numbers.result.now) (view c.args.frame.now))
+    c.args.frame.now c.declare_numbers.new.frame c.args.todo.now.items
+    (λ call. act_numbers (program_of c.args.given.checked.now) call c.args.at c.args.task.now c.in-Numbers.sort c.in-Numbers.inits c.as_slice-in-Numbers.result.now (view c.args.frame.now) c.in-Numbers.is c.as_slice-in-Numbers.ensures)
+    (c.in_ok-declare_numbers-in-Numbers.ensures.ok c.args.given.choice)
+
+pub returns-in_ok-declare_numbers-in-Numbers-clause-begun : goal.returns-in_ok-declare_numbers-in-Numbers-clause-begun
+returns-in_ok-declare_numbers-in-Numbers-clause-begun c =
+    let f = c.args.frame.now in
+    begun_runs (λ taken. IsFineAct taken (pure_act c.args.task.now)) c.args.given.choice (declare_numbers c.in-Numbers.sort (map pure_init c.as_slice-in-Numbers.result.now) (view f)) f c.declare_numbers.new.frame c.args.todo.now.items
+    (keeps_numbers f.steps (length f.numbers) c.in-Numbers.sort (map pure_init c.as_slice-in-Numbers.result.now) (view f) refl refl)
+    (c.in_ok-declare_numbers-in-Numbers.ensures.ok c.args.given.choice)
+
+pub returns-in_err-declare_numbers-in-Numbers-clause-err : goal.returns-in_err-declare_numbers-in-Numbers-clause-err
+returns-in_err-declare_numbers-in-Numbers-clause-err c =
+    let p = err_from_is_err_and c.from_residual-in_err-declare_numbers-in-Numbers.result c.from_residual-in_err-declare_numbers-in-Numbers.ensures.1 in
+    rw (p.1, p.2) (λ other.
+    act_refused (program_of c.args.given.checked.now) c.args.given.choice c.args.at c.args.task.now (declare_numbers c.in-Numbers.sort (map pure_init c.as_slice-in-Numbers.result.now) (view c.args.frame.now)) c.args.frame.now _
+    (λ call. act_numbers (program_of c.args.given.checked.now) call c.args.at c.args.task.now c.in-Numbers.sort c.in-Numbers.inits c.as_slice-in-Numbers.result.now (view c.args.frame.now) c.in-Numbers.is c.as_slice-in-Numbers.ensures)
+    (c.in_err-declare_numbers-in-Numbers.ensures.err other c.args.given.choice))
+
+-- ---- a setting and a measurement
+
+pub returns-in_ok-set_number-in-Set-clause-ok : goal.returns-in_ok-set_number-in-Set-clause-ok
+returns-in_ok-set_number-in-Set-clause-ok c =
+    let t = c.in-Set.set in
+    act_done (program_of c.args.given.checked.now) c.args.given.choice c.args.at c.args.task.now (set_number t.name t.op t.place (option_map pure_expr t.value) (view c.args.frame.now))
+    c.args.frame.now c.set_number.new.frame c.args.todo.now.items
+    (λ call. act_set (program_of c.args.given.checked.now) call c.args.at c.args.task.now t (view c.args.frame.now) c.in-Set.is)
+    (c.in_ok-set_number-in-Set.ensures.ok c.args.given.choice)
+
+pub returns-in_ok-set_number-in-Set-clause-begun : goal.returns-in_ok-set_number-in-Set-clause-begun
+returns-in_ok-set_number-in-Set-clause-begun c =
+    let f = c.args.frame.now in
+    let t = c.in-Set.set in
+    begun_runs (λ taken. IsFineAct taken (pure_act c.args.task.now)) c.args.given.choice (set_number t.name t.op t.place (option_map pure_expr t.value) (view f)) f c.set_number.new.frame c.args.todo.now.items
+    (keeps_set f.steps (length f.numbers) t.name t.op t.place (option_map pure_expr t.value) (view f) refl refl)
+    (c.in_ok-set_number-in-Set.ensures.ok c.args.given.choice)
+
+pub returns-in_err-set_number-in-Set-clause-err : goal.returns-in_err-set_number-in-Set-clause-err
+returns-in_err-set_number-in-Set-clause-err c =
+    let p = err_from_is_err_and c.from_residual-in_err-set_number-in-Set.result c.from_residual-in_err-set_number-in-Set.ensures.1 in
+    let t = c.in-Set.set in
+    rw (p.1, p.2) (λ other.
+    act_refused (program_of c.args.given.checked.now) c.args.given.choice c.args.at c.args.task.now (set_number t.name t.op t.place (option_map pure_expr t.value) (view c.args.frame.now)) c.args.frame.now _
+    (λ call. act_set (program_of c.args.given.checked.now) call c.args.at c.args.task.now t (view c.args.frame.now) c.in-Set.is)
+    (c.in_err-set_number-in-Set.ensures.err c.args.given.choice))
+
+pub returns-in_ok-measure-in-Measure-clause-ok : goal.returns-in_ok-measure-in-Measure-clause-ok
+returns-in_ok-measure-in-Measure-clause-ok c =
+    act_done (program_of c.args.given.checked.now) c.args.given.choice c.args.at c.args.task.now (measure_on c.in-Measure.task (view c.args.frame.now))
+    c.args.frame.now c.measure.new.frame c.args.todo.now.items
+    (λ call. act_measure (program_of c.args.given.checked.now) call c.args.at c.args.task.now c.in-Measure.task (view c.args.frame.now) c.in-Measure.is)
+    c.in_ok-measure-in-Measure.ensures.ok
+
+pub returns-in_ok-measure-in-Measure-clause-begun : goal.returns-in_ok-measure-in-Measure-clause-begun
+returns-in_ok-measure-in-Measure-clause-begun c =
+    begun_others (λ taken. IsFineAct taken (pure_act c.args.task.now)) c.args.frame.now c.measure.new.frame c.args.todo.now.items c.in_ok-measure-in-Measure.ensures.others
+
+pub returns-in_err-measure-in-Measure-clause-err : goal.returns-in_err-measure-in-Measure-clause-err
+returns-in_err-measure-in-Measure-clause-err c =
+    let p = err_from_is_err_and c.from_residual-in_err-measure-in-Measure.result c.from_residual-in_err-measure-in-Measure.ensures.1 in
+    rw (p.1, p.2) (λ other.
+    act_refused (program_of c.args.given.checked.now) c.args.given.choice c.args.at c.args.task.now (measure_on c.in-Measure.task (view c.args.frame.now)) c.args.frame.now _
+    (λ call. act_measure (program_of c.args.given.checked.now) call c.args.at c.args.task.now c.in-Measure.task (view c.args.frame.now) c.in-Measure.is)
+    (c.in_err-measure-in-Measure.ensures.err other))
+
+-- ---- a call
+
+pub returns-in-Call-clause-ok : goal.returns-in-Call-clause-ok
+returns-in-Call-clause-ok c =
+    let program = program_of c.args.given.checked.now in
+    let t = c.in-Call.call in
+    IfOk-weaker c.begin_call.result _ _
+    (λ r h. advanced_from program c.args.given.choice (λ k. act program k c.args.at (pure_act c.args.task.now)) (λ k. call_on program k t.callee (map pure_expr t.args)) c.args.frame.now c.args.frame.now c.begin_call.new.frame
+    c.args.todo.now.items c.args.todo.now.items r refl (λ k. act_called program k c.args.at c.args.task.now t (view c.args.frame.now) c.in-Call.is) (h c.args.todo.now.items))
+    c.begin_call.ensures.ok
+
+pub returns-in-Call-clause-fits : goal.returns-in-Call-clause-fits
+returns-in-Call-clause-fits c =
+    IfOk-weaker c.begin_call.result _ _
+    (λ r h accepted fine. h accepted (subst (λ (a : Act). IsFineAct (taken_by_source c.args.given.checked.now) (pure_act a)) c.in-Call.is fine))
+    c.begin_call.ensures.fits
+
+pub returns-in-Call-clause-err : goal.returns-in-Call-clause-err
+returns-in-Call-clause-err c =
+    let program = program_of c.args.given.checked.now in
+    let t = c.in-Call.call in
+    IfErr-weaker c.begin_call.result _ _
+    (λ fault h other. stops_from c.args.given.choice (λ k. act program k c.args.at (pure_act c.args.task.now)) (λ k. call_on program k t.callee (map pure_expr t.args)) c.args.frame.now c.args.frame.now fault refl
+    (λ k. act_called program k c.args.at c.args.task.now t (view c.args.frame.now) c.in-Call.is) (h other))
+    c.begin_call.ensures.err
+
+pub returns-in-Call-clause-begun : goal.returns-in-Call-clause-begun
+returns-in-Call-clause-begun c =
+    always c.begin_call.result _ (begun_others (λ taken. IsFineAct taken (pure_act c.args.task.now)) c.args.frame.now c.begin_call.new.frame c.args.todo.now.items c.begin_call.ensures.others)
+
+-- ---- an `if`
+
+pub returns-in_ok-begin_if-in-If-clause-ok : goal.returns-in_ok-begin_if-in-If-clause-ok
+returns-in_ok-begin_if-in-If-clause-ok c =
+    let program = program_of c.args.given.checked.now in
+    let body = c.deref.result.now in
+    let other = option_copied c.optional.result in
+    advanced_from program c.args.given.choice (λ k. act program k c.args.at (pure_act c.args.task.now)) (λ k. if_on program k c.in-If.test body other) c.args.frame.now c.args.frame.now c.begin_if.new.frame
+    c.args.todo.now.items c.begin_if.new.todo.items None refl
+    (λ k. act_if program k c.args.at c.args.task.now c.in-If.test c.in-If.body c.in-If.other body other (view c.args.frame.now) c.in-If.is c.deref.ensures c.optional.ensures)
+    c.in_ok-begin_if-in-If.ensures.ok
+
+pub returns-in_ok-begin_if-in-If-clause-begun : goal.returns-in_ok-begin_if-in-If-clause-begun
+returns-in_ok-begin_if-in-If-clause-begun c =
+    begun_from (λ taken. IsFineAct taken (pure_act c.args.task.now)) (FineIf c.deref.result c.optional.result) c.args.frame.now c.begin_if.new.frame c.args.todo.now.items c.begin_if.new.todo.items
+    (λ taken fine. fine_if taken c.args.task.now c.in-If.test c.in-If.body c.in-If.other c.deref.result.now (option_copied c.optional.result) c.in-If.is c.deref.ensures c.optional.ensures fine)
+    c.in_ok-begin_if-in-If.ensures.begun
+
+pub returns-in_err-begin_if-in-If-clause-err : goal.returns-in_err-begin_if-in-If-clause-err
+returns-in_err-begin_if-in-If-clause-err c =
+    let program = program_of c.args.given.checked.now in
+    let body = c.deref.result.now in
+    let other = option_copied c.optional.result in
+    let p = err_from_is_err_and c.from_residual-in_err-begin_if-in-If.result c.from_residual-in_err-begin_if-in-If.ensures.1 in
+    rw (p.1, p.2) (λ known.
+    stops_from c.args.given.choice (λ k. act program k c.args.at (pure_act c.args.task.now)) (λ k. if_on program k c.in-If.test body other) c.args.frame.now c.args.frame.now _ refl
+    (λ k. act_if program k c.args.at c.args.task.now c.in-If.test c.in-If.body c.in-If.other body other (view c.args.frame.now) c.in-If.is c.deref.ensures c.optional.ensures)
+    (c.in_err-begin_if-in-If.ensures.err known))
+
+-- ---- loops
+
+pub returns-in_ok-push-in-While-clause-ok : goal.returns-in_ok-push-in-While-clause-ok
+returns-in_ok-push-in-While-clause-ok c =
+    while_advanced (program_of c.args.given.checked.now) c.args.given.choice c.args.at c.args.task.now c.in-While.test c.in-While.body _ c.args.frame.now c.args.todo.now.items c.push.new.todo.items
+    c.in-While.is refl refl c.deref-in-While.ensures refl c.in_ok-push-in-While.ensures
+
+pub returns-in_ok-push-in-While-clause-begun : goal.returns-in_ok-push-in-While-clause-begun
+returns-in_ok-push-in-While-clause-begun c =
+    while_begun c.args.task.now c.in-While.test c.in-While.body _ c.args.frame.now c.args.todo.now.items c.push.new.todo.items c.in-While.is c.deref-in-While.ensures refl c.in_ok-push-in-While.ensures
+
+pub returns-in_ok-begin_for-in-For-clause-ok : goal.returns-in_ok-begin_for-in-For-clause-ok
+returns-in_ok-begin_for-in-For-clause-ok c =
+    let program = program_of c.args.given.checked.now in
+    let first = option_copied c.optional-in-For-2.result in
+    let rounds : Rounds = record { at = c.args.at; test = c.as_ref.result; body = c.deref-in-For.result; advance = c.optional-in-For.result } in
+    advanced_from program c.args.given.choice (λ k. act program k c.args.at (pure_act c.args.task.now)) (λ k. for_on program k first rounds) c.args.frame.now c.args.frame.now c.begin_for.new.frame
+    c.args.todo.now.items c.begin_for.new.todo.items None refl
+    (λ k. act_for program k c.args.at c.args.task.now c.in-For.start c.in-For.test c.in-For.advance c.in-For.body first rounds (view c.args.frame.now) c.in-For.is c.optional-in-For-2.ensures refl c.as_ref.ensures.value
+    c.deref-in-For.ensures c.optional-in-For.ensures)
+    c.in_ok-begin_for-in-For.ensures.ok
+
+pub returns-in_ok-begin_for-in-For-clause-begun : goal.returns-in_ok-begin_for-in-For-clause-begun
+returns-in_ok-begin_for-in-For-clause-begun c =
+    let rounds : Rounds = record { at = c.args.at; test = c.as_ref.result; body = c.deref-in-For.result; advance = c.optional-in-For.result } in
+    begun_from (λ taken. IsFineAct taken (pure_act c.args.task.now)) (FineFor c.optional-in-For-2.result rounds) c.args.frame.now c.begin_for.new.frame c.args.todo.now.items c.begin_for.new.todo.items
+    (λ taken fine. fine_for taken c.args.task.now c.in-For.start c.in-For.test c.in-For.advance c.in-For.body (option_copied c.optional-in-For-2.result) rounds c.in-For.is c.optional-in-For-2.ensures c.deref-in-For.ensures
+    c.optional-in-For.ensures fine)
+    c.in_ok-begin_for-in-For.ensures.begun
+
+-- ---- a block, and nothing
+
+pub returns-in_ok-begin_block-in-Block-clause-ok : goal.returns-in_ok-begin_block-in-Block-clause-ok
+returns-in_ok-begin_block-in-Block-clause-ok c =
+    let program = program_of c.args.given.checked.now in
+    let xs = c.as_slice-in-Block.result.now in
+    advanced_from program c.args.given.choice (λ k. act program k c.args.at (pure_act c.args.task.now)) (λ k. block_on program k xs) c.args.frame.now c.args.frame.now c.begin_block.new.frame
+    c.args.todo.now.items c.begin_block.new.todo.items None refl
+    (λ k. act_block program k c.args.at c.args.task.now c.in-Block.stmts xs (view c.args.frame.now) c.in-Block.is c.as_slice-in-Block.ensures.value)
+    c.in_ok-begin_block-in-Block.ensures.ok
+
+pub returns-in_ok-begin_block-in-Block-clause-begun : goal.returns-in_ok-begin_block-in-Block-clause-begun
+returns-in_ok-begin_block-in-Block-clause-begun c =
+    begun_from (λ taken. IsFineAct taken (pure_act c.args.task.now)) (λ taken. AreFineStmts taken (pure_stmt_list c.as_slice-in-Block.result.now)) c.args.frame.now c.begin_block.new.frame c.args.todo.now.items c.begin_block.new.todo.items
+    (λ taken fine. fine_block taken c.args.task.now c.in-Block.stmts c.as_slice-in-Block.result.now c.in-Block.is c.as_slice-in-Block.ensures.value fine)
+    c.in_ok-begin_block-in-Block.ensures.begun
+
+pub returns-in-Empty-clause-ok : goal.returns-in-Empty-clause-ok
+returns-in-Empty-clause-ok c =
+    let program = program_of c.args.given.checked.now in
+    advanced_none program c.args.given.choice (λ k. act program k c.args.at (pure_act c.args.task.now)) c.args.frame.now c.args.frame.now c.args.todo.now.items refl
+    (λ k. act_empty program k c.args.at c.args.task.now (view c.args.frame.now) c.in-Empty.is)
+
+pub returns-in-Empty-clause-begun : goal.returns-in-Empty-clause-begun
+returns-in-Empty-clause-begun c =
+    begun_still (λ taken. IsFineAct taken (pure_act c.args.task.now)) c.args.frame.now c.args.frame.now c.args.todo.now.items refl refl

@@ -1,0 +1,40 @@
+use Rattle.std.proofs.Common.{sym}
+use Rattle.std.proofs.lemmas.Result.{err_from_is_err_and}
+use Rattle.sc_elab.specs.Callees.{definition_by}
+use Rattle.sc_elab.specs.Frames.{view}
+use Rattle.sc_meaning.specs.Programs.{program_of}
+use Rattle.sc_elab.proofs.CallParts.{gate_advanced, gate_stops, nothing_advanced, named_advanced, named_stops, named_fits}
+use Rattle.sc_elab.proofs.advance.begin_call.Goals as goal
+
+pub returns-in_ok-call_gate-in-Gate-clause-ok : goal.returns-in_ok-call_gate-in-Gate-clause-ok
+returns-in_ok-call_gate-in-Gate-clause-ok c = λ todo.
+    gate_advanced (program_of c.args.given.checked.now) c.args.given.choice c.args.call.now.callee c.in-Gate.gate c.args.call.now.args c.as_slice-args.result.now c.args.frame.now c.call_gate.new.frame todo
+    c.in-Gate.is c.as_slice-args.ensures c.in_ok-call_gate-in-Gate.ensures.ok
+
+pub returns-in_err-call_gate-in-Gate-clause-err : goal.returns-in_err-call_gate-in-Gate-clause-err
+returns-in_err-call_gate-in-Gate-clause-err c =
+    let p = err_from_is_err_and c.from_residual.result c.from_residual.ensures.1 in
+    rw (p.1, p.2) (λ other.
+    gate_stops (program_of c.args.given.checked.now) c.args.given.choice c.args.call.now.callee c.in-Gate.gate c.args.call.now.args c.as_slice-args.result.now c.args.frame.now _
+    c.in-Gate.is c.as_slice-args.ensures (c.in_err-call_gate-in-Gate.ensures.err other))
+
+pub returns-in-None-clause-ok : goal.returns-in-None-clause-ok
+returns-in-None-clause-ok c = λ todo.
+    nothing_advanced (program_of c.args.given.checked.now) c.args.given.choice c.args.call.now.callee c.in-Named.name c.args.call.now.args c.args.frame.now todo c.in-Named.is (sym c.in-None.ensures)
+
+pub returns-in_ok-request-in-Some-clause-ok : goal.returns-in_ok-request-in-Some-clause-ok
+returns-in_ok-request-in-Some-clause-ok c = λ todo.
+    named_advanced (program_of c.args.given.checked.now) c.args.given.choice c.args.call.now.callee c.in-Named.name (definition_by c.in-Some.callee) c.args.call.now.args c.as_slice-args.result.now c.args.frame.now todo
+    c.in_ok-request-in-Some.request c.in-Named.is c.as_slice-args.ensures (sym c.in-Some.ensures) c.in_ok-request-in-Some.ensures.ok
+
+pub returns-in_ok-request-in-Some-clause-fits : goal.returns-in_ok-request-in-Some-clause-fits
+returns-in_ok-request-in-Some-clause-fits c = λ accepted fine.
+    named_fits c.args.given.checked.now (view c.args.frame.now) c.args.call.now c.in-Named.name (definition_by c.in-Some.callee) c.as_slice-args.result.now c.in_ok-request-in-Some.request
+    accepted fine c.in-Named.is c.as_slice-args.ensures (sym c.in-Some.ensures) c.in_ok-request-in-Some.ensures.ok
+
+pub returns-in_err-request-in-Some-clause-err : goal.returns-in_err-request-in-Some-clause-err
+returns-in_err-request-in-Some-clause-err c =
+    let p = err_from_is_err_and c.from_residual-in_err-request-in-Some.result c.from_residual-in_err-request-in-Some.ensures.1 in
+    rw (p.1, p.2) (λ other.
+    named_stops (program_of c.args.given.checked.now) c.args.given.choice c.args.call.now.callee c.in-Named.name (definition_by c.in-Some.callee) c.args.call.now.args c.as_slice-args.result.now c.args.frame.now _
+    c.in-Named.is c.as_slice-args.ensures (sym c.in-Some.ensures) (c.in_err-request-in-Some.ensures.err other))

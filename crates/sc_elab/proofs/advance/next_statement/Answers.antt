@@ -1,0 +1,49 @@
+use Rattle.std.proofs.Common.{List, length, arith}
+use Rattle.std.specs.Borrow.{Bor}
+use Rattle.std.specs.List.{between}
+use Rattle.std.proofs.lemmas.Result.{on_ok_weaker, IfOk-weaker, IfErr-weaker}
+use Rattle.sc_syntax.specs.declared.Stmt.{Stmt}
+use Rattle.sc_elab.specs.Fine.{taken_by_source}
+use Rattle.sc_meaning.specs.Programs.{program_of}
+use Rattle.sc_elab.proofs.Beginning.{first_is, fine_first}
+use Rattle.sc_elab.proofs.StatementParts.{rest_advanced, rest_stops, rest_scopes, rest_falls, rest_fine}
+use Rattle.sc_elab.proofs.advance.next_statement.Goals as goal
+
+pub returns-clause-ok : goal.returns-clause-ok
+returns-clause-ok c =
+    let first : Bor Stmt = record { ref_ptr = c.args.stmts.ref_ptr; now = c.first-item.result } in
+    let is = first_is c.args.stmts.now c.first-item.result (omega arith) c.first-item.is in
+    IfOk-weaker c.begin_stmt.result _ _
+    (λ r h. rest_advanced (program_of c.args.given.checked.now) c.args.given.choice c.args.stmts first _ c.args.frame.now c.begin_stmt.new.frame c.args.todo.now.items c.push.new.todo.items c.begin_stmt.new.todo.items r
+    is c.in_ok-push.ensures h)
+    c.begin_stmt.ensures.ok
+
+pub returns-clause-fits : goal.returns-clause-fits
+returns-clause-fits c =
+    let is = first_is c.args.stmts.now c.first-item.result (omega arith) c.first-item.is in
+    IfOk-weaker c.begin_stmt.result _ _ (λ r h accepted fine. h accepted (fine_first (taken_by_source c.args.given.checked.now) c.args.stmts.now c.first-item.result _ is fine).0) c.begin_stmt.ensures.fits
+
+pub returns-clause-fine : goal.returns-clause-fine
+returns-clause-fine c =
+    let first : Bor Stmt = record { ref_ptr = c.args.stmts.ref_ptr; now = c.first-item.result } in
+    let is = first_is c.args.stmts.now c.first-item.result (omega arith) c.first-item.is in
+    on_ok_weaker c.begin_stmt.result
+    (rest_fine (taken_by_source c.args.given.checked.now) c.args.stmts first _ c.args.todo.now.items c.push.new.todo.items c.begin_stmt.new.todo.items is c.in_ok-push.ensures)
+    c.begin_stmt.ensures.fine
+
+pub returns-clause-err : goal.returns-clause-err
+returns-clause-err c =
+    let first : Bor Stmt = record { ref_ptr = c.args.stmts.ref_ptr; now = c.first-item.result } in
+    let rest : Bor (List Stmt) = record { ref_ptr = c.args.stmts.ref_ptr; now = between 1 (length c.args.stmts.now) c.args.stmts.now } in
+    let is = first_is c.args.stmts.now c.first-item.result (omega arith) c.first-item.is in
+    IfErr-weaker c.begin_stmt.result _ _
+    (λ f h other. rest_stops (program_of c.args.given.checked.now) c.args.given.choice c.args.stmts first rest c.args.frame.now f is (h other))
+    c.begin_stmt.ensures.err
+
+pub returns-clause-scopes : goal.returns-clause-scopes
+returns-clause-scopes c =
+    on_ok_weaker c.begin_stmt.result (rest_scopes c.args.frame.now c.begin_stmt.new.frame _ c.args.todo.now.items c.push.new.todo.items c.begin_stmt.new.todo.items c.in_ok-push.ensures) c.begin_stmt.ensures.scopes
+
+pub returns-clause-falls : goal.returns-clause-falls
+returns-clause-falls c =
+    on_ok_weaker c.begin_stmt.result (rest_falls c.args.frame.now c.begin_stmt.new.frame _ c.args.todo.now.items c.push.new.todo.items c.begin_stmt.new.todo.items c.in_ok-push.ensures) c.begin_stmt.ensures.falls

@@ -1,0 +1,268 @@
+use Rattle.std.proofs.Common.{◌≡◌, ◌<◌, ◌≤◌, ◌-◌, List, [], ◌∷◌, ◌++◌, length, Option, Some, None, refl, sym, ap, ◌∙◌, subst, arith, length-append}
+use Rattle.std.specs.Prelude.{map}
+use Rattle.std.specs.FinMap.{empty}
+use Rattle.std.proofs.lemmas.Result.{err_from_is_err_and, IfOk-weaker, IfErr-weaker}
+use Rattle.sc_gate.specs.declared.gate.Wire.{Wire}
+use Rattle.sc_gate.specs.Numbers.{no_wires}
+use Rattle.sc_syntax.specs.declared.Param.{Param}
+use Rattle.sc_syntax.specs.declared.Stmt.{Stmt}
+use Rattle.sc_syntax.specs.Alike.{pure_param, pure_stmt, pure_stmt_list, in_row}
+use Rattle.sc_value.specs.Scopes.{Scopes}
+use Rattle.sc_deck.specs.declared.key.Key.{Key}
+use Rattle.sc_deck.specs.declared.item.Item.{Item}
+use Rattle.sc_deck.specs.declared.item.Item.TheVariants as item
+use Rattle.sc_deck.specs.Bodies.{Contents, wires_of, with_item}
+use Rattle.sc_deck.specs.Keys.{param_classes, params_of}
+use Rattle.sc_deck.specs.Unfolding.{numbered}
+use Rattle.sc_elab.specs.declared.callee.Callee.{Callee}
+use Rattle.sc_elab.specs.declared.callee.Callee.TheVariants.{Module, Words}
+use Rattle.sc_elab.specs.declared.frame.Frame.{Frame}
+use Rattle.sc_elab.specs.declared.todo.Todo.{Todo}
+use Rattle.sc_elab.specs.declared.todo.Request.{Request}
+use Rattle.sc_elab.specs.Callees.{definition_by}
+use Rattle.sc_meaning.specs.Definitions.{Definition, definition}
+use Rattle.sc_elab.specs.Fine.{taken_by_source, AreFineStmts, AreFineParts, FitsRequest}
+use Rattle.sc_elab.specs.Frames.{view, Advanced}
+use Rattle.sc_meaning.specs.Local.{local, local_body}
+use Rattle.sc_elab.specs.Machines.{RunsOn, IsRefusedOn, RunsBody}
+use Rattle.sc_elab.specs.Pending.{doing, leaves}
+use Rattle.sc_meaning.specs.Programs.{program_of, function_of}
+use Rattle.sc_meaning.specs.Run.{acts, start_state}
+use Rattle.sc_meaning.specs.States.{State}
+use Rattle.sc_elab.proofs.Calling.{call_deep, call_many, call_refused_inside, call_made, body_none, body_module, body_stopped, body_function, body_wide, called_at, refused_call_at}
+use Rattle.sc_elab.proofs.CallsFit.{fine_module}
+use Rattle.sc_elab.proofs.Executing.{one_part_left, comes_begin, comes_on, comes_called, comes_stop, comes_refused, comes_end, call_runs, call_refused}
+use Rattle.sc_elab.proofs.Keeping.{length_number_params}
+use Rattle.sc_elab.proofs.elaborator.+calls.Goals as goal
+
+-- ---- the statements of a body
+
+pub exec-pending-init : goal.exec-pending-init
+exec-pending-init t c =
+    let program = program_of c.args.given.checked.now in
+    let one = one_part_left c.push.new.todo.items c.new-todo.result.items c.args.stmts c.in_ok-push.ensures c.new-todo.ensures.items in
+    record {
+      room = c.requires.room;
+      fine = subst (AreFineParts (taken_by_source c.args.given.checked.now)) (sym one) (c.requires.fine, tt);
+      nested = subst (λ (ts : List Todo). leaves ts < length c.args.frame.now.numbers) (sym one) c.requires.scoped;
+      comes = comes_begin c.args.given.choice program (local program c.args.depth) c.args.stmts c.args.machine.now c.args.frame.now c.push.new.todo.items one;
+    }
+
+pub exec-advance-requires-clause-fine : goal.exec-advance-requires-clause-fine
+exec-advance-requires-clause-fine t c = subst (AreFineParts (taken_by_source c.args.given.checked.now)) c.in-Some.ensures.items c.pending.invariant.fine
+
+pub exec-advance-requires-clause-nested : goal.exec-advance-requires-clause-nested
+exec-advance-requires-clause-nested t c = subst (λ (ts : List Todo). leaves ts < length c.pending.frame.numbers) c.in-Some.ensures.items c.pending.invariant.nested
+
+pub exec-returns-in_err-request-clause-err : goal.exec-returns-in_err-request-clause-err
+exec-returns-in_err-request-clause-err t c =
+    let program = program_of c.args.given.checked.now in
+    let call = local program c.args.depth in
+    let p = err_from_is_err_and c.from_residual-in_err-request.result c.from_residual-in_err-request.ensures.1 in
+    rw (p.1, p.2) (λ other.
+    comes_stop c.args.given.choice program call (acts program call (pure_stmt_list c.args.stmts.now) (view c.args.frame.now)) c.args.machine.now c.pending.machine c.args.frame.now c.pending.frame
+    c.pending.todo.items c.pop.new.self.items c.in-Some.next _ c.pending.invariant.room c.in-Some.ensures.items c.pending.invariant.comes (c.in_err-request.ensures.err other))
+
+pub exec-pending-smaller-in_default-2 : goal.exec-pending-smaller-in_default-2
+exec-pending-smaller-in_default-2 t c =
+    let more = ap length c.in-Some.ensures.items ∙ length-append c.pop.new.self.items (c.in-Some.next ∷ []) in
+    let falls = c.in_ok-request.ensures.falls in
+    omega arith
+
+pub exec-pending-preserved-in_default-2 : goal.exec-pending-preserved-in_default-2
+exec-pending-preserved-in_default-2 t c =
+    let program = program_of c.args.given.checked.now in
+    let call = local program c.args.depth in
+    let f = c.pending.frame in
+    let g = c.advance.new.frame in
+    let old = c.pop.new.self.items in
+    let todo' = c.advance.new.todo.items in
+    record {
+      room = c.pending.invariant.room;
+      fine = c.in_ok-request.ensures.fine;
+      nested = c.in_ok-request.ensures.nested;
+      comes = comes_on c.args.given.choice program call (acts program call (pure_stmt_list c.args.stmts.now) (view c.args.frame.now)) c.args.machine.now c.pending.machine c.args.frame.now f g
+          c.pending.todo.items old todo' c.in-Some.next c.pending.invariant.room c.in-Some.ensures.items c.pending.invariant.comes
+          (subst (λ (r : Option Request). Advanced program c.args.given.choice (λ k. doing program k c.in-Some.next) f old r g todo') c.in_default-2.is c.in_ok-request.ensures.ok);
+    }
+
+pub exec-call_from-requires : goal.exec-call_from-requires
+exec-call_from-requires t c =
+    (omega arith, (c.pending.invariant.room, (c.requires.accepted, subst (FitsRequest (program_of c.args.given.checked.now)) c.in-Some-2.is c.in_ok-request.ensures.fits)))
+
+pub exec-returns-in_err-call_from-clause-err : goal.exec-returns-in_err-call_from-clause-err
+exec-returns-in_err-call_from-clause-err t c =
+    let program = program_of c.args.given.checked.now in
+    let call = local program c.args.depth in
+    let f = c.pending.frame in
+    let g = c.advance.new.frame in
+    let old = c.pop.new.self.items in
+    let todo' = c.advance.new.todo.items in
+    let p = err_from_is_err_and c.from_residual-in_err-call_from.result c.from_residual-in_err-call_from.ensures.1 in
+    rw (p.1, p.2) (λ other.
+    comes_refused c.args.given.choice program call (acts program call (pure_stmt_list c.args.stmts.now) (view c.args.frame.now)) c.args.machine.now c.pending.machine c.args.frame.now f g
+    c.pending.todo.items old todo' c.in-Some.next c.in-Some-2.request _ c.pending.invariant.room c.in-Some.ensures.items c.pending.invariant.comes
+    (subst (λ (r : Option Request). Advanced program c.args.given.choice (λ k. doing program k c.in-Some.next) f old r g todo') c.in-Some-2.is c.in_ok-request.ensures.ok)
+    (c.in_err-call_from.ensures.err other))
+
+pub exec-pending-smaller : goal.exec-pending-smaller
+exec-pending-smaller t c =
+    let more = ap length c.in-Some.ensures.items ∙ length-append c.pop.new.self.items (c.in-Some.next ∷ []) in
+    let falls = c.in_ok-request.ensures.falls in
+    let steps = ap (λ (h : Frame). h.steps) c.in_ok-call_from.ensures.others in
+    omega arith
+
+pub exec-pending-preserved : goal.exec-pending-preserved
+exec-pending-preserved t c =
+    let program = program_of c.args.given.checked.now in
+    let call = local program c.args.depth in
+    let f = c.pending.frame in
+    let g = c.advance.new.frame in
+    let h = c.call_from.new.frame in
+    let old = c.pop.new.self.items in
+    let todo' = c.advance.new.todo.items in
+    record {
+      room = c.in_ok-call_from.ensures.room;
+      fine = c.in_ok-request.ensures.fine;
+      nested = subst (λ (n : Scopes). leaves todo' < length n) (sym (ap (λ (x : Frame). x.numbers) c.in_ok-call_from.ensures.others)) c.in_ok-request.ensures.nested;
+      comes = comes_called c.args.given.choice program call (acts program call (pure_stmt_list c.args.stmts.now) (view c.args.frame.now)) c.args.machine.now c.pending.machine c.call_from.new.machine c.args.frame.now f g h
+          c.pending.todo.items old todo' c.in-Some.next c.in-Some-2.request c.pending.invariant.room c.in-Some.ensures.items c.pending.invariant.comes
+          (subst (λ (r : Option Request). Advanced program c.args.given.choice (λ k. doing program k c.in-Some.next) f old r g todo') c.in-Some-2.is c.in_ok-request.ensures.ok)
+          c.in_ok-call_from.ensures.ok;
+    }
+
+pub exec-returns-clause-ok : goal.exec-returns-clause-ok
+exec-returns-clause-ok t c =
+    let program = program_of c.args.given.checked.now in
+    let call = local program c.args.depth in
+    let none : length c.pending.todo.items ≡ 0 = let n = c.in_default.ensures.cases.0 in let k = c.pending.todo.ok.0 in omega arith in
+    comes_end c.args.given.choice program call (acts program call (pure_stmt_list c.args.stmts.now) (view c.args.frame.now)) c.args.machine.now c.pending.machine c.args.frame.now c.pending.frame
+    c.pending.todo.items c.pending.invariant.room none c.pending.invariant.comes
+
+pub exec-returns-clause-room : goal.exec-returns-clause-room
+exec-returns-clause-room t c = c.pending.invariant.room
+
+-- ---- a call from a body
+
+pub call_from-returns-in_err-number-clause-err : goal.call_from-returns-in_err-number-clause-err
+call_from-returns-in_err-number-clause-err t c =
+    let program = program_of c.args.given.checked.now in
+    let p = err_from_is_err_and c.from_residual.result c.from_residual.ensures.1 in
+    rw (p.1, p.2) (λ other. call_refused c.args.given.choice (local program c.args.depth) c.args.request c.args.machine.now c.args.frame.now _ (c.in_err-number.ensures.err other))
+
+pub call_from-returns-clause-ok : goal.call_from-returns-clause-ok
+call_from-returns-clause-ok t c =
+    let program = program_of c.args.given.checked.now in
+    let f = c.args.frame.now in
+    let body = c.in_ok-push_call.ensures ∙ ap (λ (ws : List Wire). with_item f.body (item.Call c.in_ok-number.number ws)) c.deref.ensures.value in
+    call_runs c.args.given.choice (local program c.args.depth) c.args.request c.args.machine.now c.call.new.machine f (record f { body = c.push_call.new.body }) c.in_ok-number.number
+    c.in_ok-number.ensures.ok body refl
+
+-- ---- the body of a key
+
+pub body_of-returns-in-None-clause-ok : goal.body_of-returns-in-None-clause-ok
+body_of-returns-in-None-clause-ok t c =
+    let program = program_of c.args.given.checked.now in
+    let m = c.args.machine.now in
+    subst (λ (is : List Item). RunsBody c.args.given.choice (local_body program (local program c.args.depth) c.args.key.now) m is m) (sym (ap (λ (b : Contents). b.items) c.new.ensures))
+    (record { own = params_of c.args.key.now; runs = body_none c.args.given.choice program c.args.depth c.args.key.now m (sym c.in-None.ensures) c.requires.room })
+
+pub body_of-exec-requires : goal.body_of-exec-requires
+body_of-exec-requires t c =
+    let one : length c.in_ok-frame-in-Module.frame.numbers ≡ 1 =
+    ap (λ (s : State). length s.numbers) c.in_ok-frame-in-Module.ensures.view ∙ length_number_params (map pure_param c.as_slice.result.now) c.args.key.now.args (empty ∷ []) in
+    let is = sym c.in-Some.ensures ∙ ap (λ (d : Callee). Some (definition_by d)) c.in-Module.is in
+    let called = c.in-Module.called.now in
+    let fine : AreFineStmts (taken_by_source c.args.given.checked.now) (pure_stmt_list c.as_slice-in-Module.result.now) =
+    subst (λ (ss : List Stmt). AreFineStmts (taken_by_source c.args.given.checked.now) (pure_stmt_list ss)) (sym c.as_slice-in-Module.ensures)
+    (fine_module c.args.given.checked.now c.args.key.now.name called.name (map pure_param called.params) (pure_stmt_list called.body) c.requires.accepted is) in
+    (omega arith, (c.requires.room, (omega arith, (c.requires.accepted, fine))))
+
+pub body_of-returns-in_ok-exec-in-Module-clause-ok : goal.body_of-returns-in_ok-exec-in-Module-clause-ok
+body_of-returns-in_ok-exec-in-Module-clause-ok t c =
+    let program = program_of c.args.given.checked.now in
+    let n = c.args.depth in
+    let key = c.args.key.now in
+    let m = c.args.machine.now in
+    let called = c.in-Module.called.now in
+    let is = sym c.in-Some.ensures ∙ ap (λ (d : Callee). Some (definition_by d)) c.in-Module.is in
+    let f = c.in_ok-frame-in-Module.frame in
+    let g = c.exec.new.frame in
+    let start = c.in_ok-frame-in-Module.ensures.view
+    ∙ ap (λ (ps : List Param). start_state (map pure_param ps) key.args (numbered (param_classes key) no_wires) (params_of key)) c.as_slice.ensures in
+    let runs = subst (λ (ss : List Stmt). RunsOn c.args.given.choice (acts program (local program n) (pure_stmt_list ss) (view f)) m f c.exec.new.machine g) c.as_slice-in-Module.ensures c.in_ok-exec-in-Module.ensures.ok in
+    record {
+      own = (view g).next;
+      runs = body_module c.args.given.choice program n key m c.exec.new.machine called.name (map pure_param called.params) (pure_stmt_list called.body) f g is start c.in_ok-frame-in-Module.ensures.items runs;
+    }
+
+pub body_of-returns-in_err-exec-in-Module-clause-err : goal.body_of-returns-in_err-exec-in-Module-clause-err
+body_of-returns-in_err-exec-in-Module-clause-err t c =
+    let program = program_of c.args.given.checked.now in
+    let n = c.args.depth in
+    let key = c.args.key.now in
+    let m = c.args.machine.now in
+    let called = c.in-Module.called.now in
+    let is = sym c.in-Some.ensures ∙ ap (λ (d : Callee). Some (definition_by d)) c.in-Module.is in
+    let f = c.in_ok-frame-in-Module.frame in
+    let start = c.in_ok-frame-in-Module.ensures.view
+    ∙ ap (λ (ps : List Param). start_state (map pure_param ps) key.args (numbered (param_classes key) no_wires) (params_of key)) c.as_slice.ensures in
+    let p = err_from_is_err_and c.from_residual-in_err-exec-in-Module.result c.from_residual-in_err-exec-in-Module.ensures.1 in
+    rw (p.1, p.2) (λ other.
+    body_stopped c.args.given.choice program n key m called.name (map pure_param called.params) (pure_stmt_list called.body) f _ is start c.in_ok-frame-in-Module.ensures.items
+    (subst (λ (ss : List Stmt). IsRefusedOn c.args.given.choice (acts program (local program n) (pure_stmt_list ss) (view f)) m f c.in_err-exec-in-Module.field-0.0) c.as_slice-in-Module.ensures (c.in_err-exec-in-Module.ensures.err other)))
+
+pub body_of-function_body-requires : goal.body_of-function_body-requires
+body_of-function_body-requires t c =
+    c.requires.fits c.in-Words.name.now (function_of c.in-Words.function.now) (sym c.in-Some.ensures ∙ ap (λ (d : Callee). Some (definition_by d)) c.in-Words.is)
+
+pub body_of-returns-in-Words-clause-ok : goal.body_of-returns-in-Words-clause-ok
+body_of-returns-in-Words-clause-ok t c =
+    let program = program_of c.args.given.checked.now in
+    let is = sym c.in-Some.ensures ∙ ap (λ (d : Callee). Some (definition_by d)) c.in-Words.is in
+    IfOk-weaker c.function_body.result _ _
+    (λ body h. record {
+      own = wires_of body;
+      runs = body_function c.args.given.choice program c.args.depth c.args.key.now c.args.machine.now c.in-Words.name.now (function_of c.in-Words.function.now) body is h c.requires.room;
+    })
+    c.function_body.ensures.ok
+
+pub body_of-returns-in-Words-clause-err : goal.body_of-returns-in-Words-clause-err
+body_of-returns-in-Words-clause-err t c =
+    let program = program_of c.args.given.checked.now in
+    let is = sym c.in-Some.ensures ∙ ap (λ (d : Callee). Some (definition_by d)) c.in-Words.is in
+    IfErr-weaker c.function_body.result _ _
+    (λ f h other. body_wide c.args.given.choice program c.args.depth c.args.key.now c.args.machine.now c.in-Words.name.now (function_of c.in-Words.function.now) f is (h other) c.requires.room)
+    c.function_body.ensures.err
+
+-- ---- a call of a key
+
+pub call-returns-then-depth-eq0-clause-err : goal.call-returns-then-depth-eq0-clause-err
+call-returns-then-depth-eq0-clause-err t c = λ other. rw c.if-depth-eq0.true (call_deep c.args.given.choice (program_of c.args.given.checked.now) c.args.key c.args.machine.now c.requires.room)
+
+pub call-returns-in_err-enter-clause-err : goal.call-returns-in_err-enter-clause-err
+call-returns-in_err-enter-clause-err t c =
+    let program = program_of c.args.given.checked.now in
+    let p = err_from_is_err_and c.from_residual.result c.from_residual.ensures.1 in
+    rw (p.1, p.2) (λ other.
+    refused_call_at c.args.given.choice program c.args.depth c.args.key c.args.machine.now _ c.if-depth-eq0.false
+    (call_many c.args.given.choice program (c.args.depth - 1) c.args.key c.args.machine.now _ (c.in_err-enter.ensures.err other)))
+
+pub call-returns-in_err-body-clause-err : goal.call-returns-in_err-body-clause-err
+call-returns-in_err-body-clause-err t c =
+    let program = program_of c.args.given.checked.now in
+    let p = err_from_is_err_and c.from_residual-in_err-body.result c.from_residual-in_err-body.ensures.1 in
+    rw (p.1, p.2) (λ other.
+    refused_call_at c.args.given.choice program c.args.depth c.args.key c.args.machine.now _ c.if-depth-eq0.false
+    (call_refused_inside c.args.given.choice program (c.args.depth - 1) c.args.key c.args.machine.now c.enter.new.self _ c.in_ok-enter.ensures.ok c.in_ok-enter.ensures.deck c.in_ok-enter.ensures.few
+    (c.in_err-body.ensures.err other)))
+
+pub call-returns-clause-ok : goal.call-returns-clause-ok
+call-returns-clause-ok t c =
+    let program = program_of c.args.given.checked.now in
+    called_at c.args.given.choice program c.args.depth c.args.key c.args.machine.now c.add.new.self c.in_ok-number.number c.if-depth-eq0.false
+    (call_made c.args.given.choice program (c.args.depth - 1) c.args.key c.args.machine.now c.enter.new.self c.body_of.new.machine c.add.new.self c.in_ok-number.number c.in_ok-body.body.items c.in_ok-body.ensures.ok.own
+    c.in_ok-enter.ensures.ok c.in_ok-enter.ensures.deck c.in_ok-enter.ensures.few c.in_ok-body.ensures.ok.runs c.in_ok-body.ensures.room c.in_ok-number.ensures.deck c.in_ok-number.ensures.number c.in_ok-number.ensures.keys)
+
+pub call-returns-clause-room : goal.call-returns-clause-room
+call-returns-clause-room t c = subst (λ (ks : List Key). length ks ≤ 65536) (sym c.in_ok-number.ensures.keys) c.in_ok-body.ensures.room

@@ -1,0 +1,14 @@
+pub mod Beginnings
+pub mod Callees
+pub mod Evaluated
+pub mod Fine
+pub mod Frames
+pub mod FunctionBodies
+pub mod Gating
+pub mod Machines
+pub mod Pending
+pub mod Sources
+pub mod Spans
+pub mod Starting
+pub mod Stepping
+pub mod Typings

@@ -1,0 +1,11 @@
+-- What a checked source keeps.
+use Rattle.std.specs.Prelude.{ℕ}
+use Rattle.sc_types.specs.Accepted.{IsAccepted}
+use Rattle.sc_types.specs.Typing.{TypedSource, HasMain, HaveDistinctNames}
+
+-- it is accepted, it has a main, and no two of its parts have one name
+pub record IsSound (t : TypedSource) : Type 0 where
+  pub accepted : IsAccepted t
+  pub place : ℕ
+  pub main : HasMain t.source place
+  pub distinct : HaveDistinctNames t.source.parts
