@@ -19,9 +19,9 @@ use Rattle.sc_meaning.specs.Outcomes.{Outcome, Done, Stopped, events_of}
 use Rattle.sc_meaning.specs.Programs.{program_of}
 use Rattle.sc_meaning.specs.Run.{run_program}
 use Rattle.sc_meaning.specs.Kept.{Each, In}
-use Rattle.sc_meaning.proofs.Expansion.{stands, good_by}
+use Rattle.sc_meaning.proofs.Expansion.{good_by}
 use Rattle.sc_meaning.proofs.Fitting.{source_fits, main_fits}
-use Rattle.sc_meaning.proofs.Known.{Good}
+use Rattle.sc_meaning.proofs.Known.{Good, stands}
 use Rattle.sc_meaning.proofs.Last.{each_mid}
 use Rattle.sc_meaning.proofs.MoveActs.{CallBy}
 use Rattle.sc_meaning.proofs.Moving.{CalledAt, AreCalls}

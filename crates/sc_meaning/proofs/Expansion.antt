@@ -1,5 +1,5 @@
 -- THE EXPANSION: the last instance with all its calls written out is the run.
-use Rattle.std.proofs.Common.{◌≡◌, ℕ, suc, ◌-◌, ◌<◌, Bool, true, false, cond, List, [], ◌∷◌, ◌++◌, map, length, Option, Some, None, refl, sym, ap, ◌∙◌, subst, arith}
+use Rattle.std.proofs.Common.{◌≡◌, ℕ, suc, ◌-◌, List, [], ◌∷◌, ◌++◌, map, length, Option, Some, None, refl, sym, ap, ◌∙◌, subst, arith}
 use Rattle.std.specs.Prelude.{slice_get, nat_lt}
 use Rattle.std.specs.Option.{option_map, option_map_or}
 use Rattle.std.proofs.lemmas.List.{length-map}
@@ -9,8 +9,7 @@ use Rattle.sc_gate.specs.Numbers.{Numbers, no_wires}
 use Rattle.sc_types.specs.Accepted.{Taken}
 use Rattle.sc_deck.specs.declared.key.Key.{Key}
 use Rattle.sc_deck.specs.Events.{Event, Enter, Fresh, Apply, Return, gates_in}
-use Rattle.sc_deck.specs.Keys.{same_key, main_key, param_classes, params_of}
-use Rattle.sc_deck.specs.KeyLaws.{same_key_decides}
+use Rattle.sc_deck.specs.Keys.{main_key, param_classes, params_of}
 use Rattle.sc_deck.specs.Modules.{Module, key_of}
 use Rattle.sc_deck.specs.Turns.{folded_modules}
 use Rattle.sc_deck.specs.Unfolding.{unfold_on, expansion, numbered}
@@ -26,7 +25,7 @@ use Rattle.sc_meaning.specs.Programs.{program_of}
 use Rattle.sc_meaning.specs.Run.{run_program}
 use Rattle.sc_meaning.specs.Kept.{In, FitsBy}
 use Rattle.sc_meaning.proofs.Fitting.{source_fits, main_fits}
-use Rattle.sc_meaning.proofs.Known.{Passes, Good, good_none}
+use Rattle.sc_meaning.proofs.Known.{Passes, Good, good_none, stands}
 use Rattle.sc_meaning.proofs.MoveActs.{CallBy}
 use Rattle.sc_meaning.proofs.MoveBodies.{IsFit}
 use Rattle.sc_meaning.proofs.Top.{all_events, main_moves, read_is, main_last, not_refused}
@@ -64,32 +63,7 @@ chosen_kept (Return key ∷ es) = ap (λ (xs : List Event). Return key ∷ xs) (
 
 -- ---- the module of a key
 
--- the module at the number of a key that is there
-pub record Stands (deck : List Module) (key : Key) : Type 0 where
-  pub found : Module
-  pub is : slice_get deck (number_in_deck deck key) ≡ Some found
-  pub named : found.key ≡ key
-
-pub stands : (deck : List Module) (key : Key) → In deck key → Stands deck key
-stands [] key i = absurd (omega arith)
-stands (m ∷ deck) key i = by (same_key m.key key) refl i (stands deck key)
-  where
-    by : (b : Bool) → same_key m.key key ≡ b → cond b 0 (suc (number_in_deck deck key)) < suc (length deck) → (In deck key → Stands deck key) → Stands (m ∷ deck) key
-    by true e h more = record {
-      found = m;
-      is = ap (λ (t : Bool). slice_get (m ∷ deck) (cond t 0 (suc (number_in_deck deck key)))) e;
-      named = (same_key_decides m.key key).0 e;
-    }
-    by false e h more =
-        let low : number_in_deck deck key < length deck = omega arith in
-        let rest = more low in
-        record {
-          found = rest.found;
-          is = ap (λ (t : Bool). slice_get (m ∷ deck) (cond t 0 (suc (number_in_deck deck key)))) e ∙ rest.is;
-          named = rest.named;
-        }
-
-main_passes : Passes main_key [] no_wires
+pub main_passes : Passes main_key [] no_wires
 main_passes = record { classes = refl; distinct = tt; below = tt }
 
 -- what main expands to, where it is the last module

@@ -1,7 +1,6 @@
 -- A KEPT BODY stands for another entering of its key.
-use Rattle.std.proofs.Common.{◌≡◌, ℕ, zero, suc, ◌<◌, ◌≤◌, Bool, false, cond, List, [], ◌∷◌, ◌++◌, length, ◌⊎◌, inl, inr, Result, Ok, Err, refl, sym, ap, ◌∙◌, subst, arith}
+use Rattle.std.proofs.Common.{◌≡◌, ℕ, zero, suc, ◌<◌, ◌≤◌, Bool, false, cond, List, [], ◌∷◌, ◌++◌, length, inl, inr, Result, Ok, Err, refl, sym, ap, ◌∙◌, subst, arith}
 use Rattle.std.specs.Prelude.{nat_lt}
-use Rattle.std.proofs.lemmas.Bool.{cases_lt}
 use Rattle.sc_gate.specs.declared.gate.Wire.{Wire}
 use Rattle.sc_gate.specs.Numbers.{Numbers}
 use Rattle.sc_types.specs.Accepted.{Taken}
@@ -15,21 +14,22 @@ use Rattle.sc_meaning.specs.declared.fault.ElabFault.TheVariants.{TooDeep, TooMa
 use Rattle.sc_meaning.specs.Definitions.{Program, definition}
 use Rattle.sc_meaning.specs.Instances.{entered_keys, with_module, number_in_deck}
 use Rattle.sc_meaning.specs.Kept.{FitsBy, In, Seen, Each, Held, made_of, KeptStands, KeptIsTooDeep}
-use Rattle.sc_meaning.specs.Local.{local_body, local, Half, Made, make_one, make, with_half, half_items, with_entry, ran}
+use Rattle.sc_meaning.specs.Local.{local_body, local, Half, Made, make_one, make, with_half, with_entry, ran}
 use Rattle.sc_meaning.specs.Outcomes.{Outcome, Done, Stopped, events_of, leaving}
 use Rattle.sc_meaning.specs.Programs.{program_of}
 use Rattle.sc_meaning.specs.Run.{entered}
 use Rattle.sc_meaning.proofs.Opening.{local_is, zero_is, few_is}
 use Rattle.sc_meaning.specs.Depth.{CutBy}
-use Rattle.sc_meaning.proofs.Cut.{local_body_cuts, done_deeper}
+use Rattle.sc_meaning.proofs.Cut.{local_body_cuts, done_deeper, same_done}
 use Rattle.sc_meaning.proofs.Fitting.{source_fits}
-use Rattle.sc_meaning.proofs.Heights.{seen_along, seen_with, Least, tallest, Heights, Tight, each_front}
+use Rattle.sc_meaning.proofs.Grown.{adds_none}
+use Rattle.sc_meaning.proofs.Heights.{seen_along, seen_with, tallest, Heights, each_front}
 use Rattle.sc_meaning.proofs.Known.{in_grows, grows_entry, entry_in, with_same}
-use Rattle.sc_meaning.proofs.Last.{each_weaker, Early, body_early}
+use Rattle.sc_meaning.proofs.Last.{each_weaker}
+use Rattle.sc_meaning.proofs.Leasts.{least_of}
 use Rattle.sc_meaning.proofs.MoveBodies.{IsFit}
 use Rattle.sc_meaning.proofs.Ran.{many, make-append, ran_fault}
 use Rattle.sc_meaning.proofs.Sharing.{Shares, body_shares}
-use Rattle.sc_meaning.proofs.Tall.{tall_enough}
 use Rattle.sc_meaning.proofs.Top.{make_keys}
 
 -- nothing new is entered, and nothing new returns
@@ -39,15 +39,6 @@ keys_same choice (Enter key wires ∷ x) m h = ap (entered_keys x) (seen_with m.
 keys_same choice (Return key ∷ x) m h = keys_same choice x m h.1
 keys_same choice (Fresh c n ∷ x) m h = keys_same choice x m h
 keys_same choice (Apply g ∷ x) m h = keys_same choice x m h
-
-deck_same : (choice : Choice) (deck : List Module) (keys : List Key) (x : List Event) (m : Made) → m.deck ≡ deck → Each (λ k. In deck k × Seen keys k) x → (make choice x m).deck ≡ deck
-deck_same choice deck keys [] m e h = e
-deck_same choice deck keys (Enter key wires ∷ x) m e h = deck_same choice deck keys x (make_one choice (Enter key wires) m) e h.1
-deck_same choice deck keys (Fresh c n ∷ x) m e h = deck_same choice deck keys x (make_one choice (Fresh c n) m) e h
-deck_same choice deck keys (Apply g ∷ x) m e h = deck_same choice deck keys x (make_one choice (Apply g) m) e h
-deck_same choice deck keys (Return key ∷ x) m e h =
-    deck_same choice deck keys x (make_one choice (Return key) m)
-    (ap (λ (d : List Module). with_module d key (half_items m.opened)) e ∙ with_same deck key (half_items m.opened) h.0.0) h.1
 
 few_ran : {A : Type 0} (choice : Choice) (m m' : Made) (es : List Event) (a : A) → make choice es m ≡ m' → many m' ≡ false → ran choice m (Done es a) ≡ Ok (a, m')
 few_ran choice m m' es a e h =
@@ -63,7 +54,7 @@ module _ (choice : Choice) (program : Program) (taken : Taken) (fit : IsFit prog
       let s = body_shares choice program taken fit d small key fits x h.ends.own done in
       let half : List Half = record { wires = wires; items = [] } ∷ opened in
       let top : List Half = record { wires = wires; items = s.news deck } ∷ opened in
-      let later : s.laters deck ≡ deck = sym (ap (λ (m : Made). m.deck) (s.does half deck keys)) ∙ deck_same choice deck keys x (made_of half deck keys) refl h.closed in
+      let later : s.laters deck ≡ deck = sym (ap (λ (m : Made). m.deck) (s.does half deck keys)) ∙ adds_none choice deck x (made_of half deck keys) refl (each_weaker (λ k. In deck k × Seen keys k) (λ k. In deck k) x (λ k i. i.0) h.closed) in
       let keyed : entered_keys x keys ≡ keys = keys_same choice x (made_of half deck keys) h.closed in
       make-append choice x (Return key ∷ []) (with_entry key wires (made_of opened deck keys))
       ∙ ap (λ (ks : List Key). make choice (Return key ∷ []) (make choice x (made_of half deck ks))) (seen_with keys key h.seen)
@@ -125,51 +116,24 @@ kept_too_deep program choice deck keys key height (suc d) h lt room wires next o
 
 -- ---- a body that is added
 
--- done where fewer bodies may be open already
-ends_by : (program : Program) (n u : ℕ) (key : Key) (x : List Event) (own : Numbers) → local_body program (local program n) key ≡ Done x own → Each (Early program u) x → (n < u) ⊎ (u ≤ n)
-    → local_body program (local program u) key ≡ Done x own
-ends_by program n u key x own e h (inl l) = done_deeper program u n (omega arith) key x own e
-ends_by program n u key x own e h (inr l) = tall_enough program n u l key x own e h
-
--- a key that ended early is not higher than that
-not_higher : (program : Program) (m : ℕ) (k : Key) (height : ℕ) → Early program m k → Least program k height → m < height → ⊥
-not_higher program m k height early least lt =
-    let l = early.less in
-    let i = least.is in
-    let low : early.depth < least.under = omega arith in
-    let short = least.short early.depth low in
-    let both : Done early.ends.events early.ends.own ≡ Stopped short.0 TooDeep = sym early.ends.is ∙ short.1 in
-    cc
-
-short_tight : (program : Program) (m : ℕ) (H : ℕ → ℕ) (d : List Module) (t : ℕ) → Heights program H d → m < t → Tight program H m d t → ⊥
-short_tight program m H d t heights lt (inl z) = omega arith
-short_tight program m H d t heights lt (inr (k, early, i, h)) = not_higher program m k (H (number_in_deck d k)) early (heights.height k i) (omega arith)
-
-short_by : (program : Program) (m : ℕ) (key : Key) (x : List Event) (own : Numbers) (o : Outcome Numbers) → o ≡ Done x own → (local_body program (local program m) key ≡ Done x own → ⊥)
-    → CutBy o (local_body program (local program m) key) → (y : List Event) × (local_body program (local program m) key ≡ Stopped y TooDeep)
-short_by program m key x own o e not (inl q) = absurd (not (q ∙ e))
-short_by program m key x own o e not (inr (y, w, q, f)) = (y, q)
-
-short_or : (program : Program) (n m : ℕ) (key : Key) (x : List Event) (own : Numbers) → local_body program (local program n) key ≡ Done x own → (local_body program (local program m) key ≡ Done x own → ⊥)
-    → (n < m) ⊎ (m ≤ n) → (y : List Event) × (local_body program (local program m) key ≡ Stopped y TooDeep)
-short_or program n m key x own e not (inl l) = absurd (not (done_deeper program m n (omega arith) key x own e))
-short_or program n m key x own e not (inr l) = short_by program m key x own (local_body program (local program n) key) e not (local_body_cuts program n m l key).holds
-
 -- THE LAW: what is known of a body as it is added, where these are the heights of the deck that its calls led to
 pub held_added : (choice : Choice) (program : Program) (taken : Taken) → IsFit program taken → (n : ℕ) → n ≤ 256 → (key : Key) → FitsBy (definition program key.name) key.args → (x : List Event) (own : Numbers)
     (s : Shares program choice x) (H : ℕ → ℕ) (deck : List Module) (keys : List Key) → local_body program (local program n) key ≡ Done x own → Heights program H (s.laters deck) → Seen keys key
     → Held program (with_module (s.laters deck) key (s.news deck)) (entered_keys x keys) key (suc (tallest H (s.news deck)))
 held_added choice program taken fit n small key fits x own s H deck keys e heights seen =
-    let u : ℕ = tallest H (s.news deck) in
-    let early : Each (Early program u) x = s.tall H deck heights in
+    let d : List Module = s.laters deck in
+    let d' : List Module = with_module d key (s.news deck) in
+    let P : Key → Type 0 = λ k. In d' k × Seen (entered_keys x keys) k in
+    let least = least_of program n key x own H d (s.news deck) e heights (s.tall H deck heights) (λ m h. s.tight H deck m h) in
+    let q : Done x own ≡ Done least.ends.events least.ends.own = same_done program n least.under key x least.ends.events own least.ends.own e least.ends.is in
+    let same : x ≡ least.ends.events = cc in
+    let all : Each P x = each_weaker (λ k. In d k × Seen (entered_keys x keys) k) P x (λ k h. (in_grows d d' k (grows_entry d key (s.news deck)) h.0, h.1)) (s.closed deck keys) in
     record {
-      under = u;
-      is = refl;
-      ends = record { events = x; own = own; is = ends_by program n u key x own e early (cases_lt n u) };
-      short = λ k lt. short_or program n k key x own e
-          (λ f. short_tight program k H (s.laters deck) u heights lt (s.tight H deck k (body_early program k key x own f))) (cases_lt n k);
-      closed = each_weaker (λ k. In (s.laters deck) k × Seen (entered_keys x keys) k) (λ k. In (with_module (s.laters deck) key (s.news deck)) k × Seen (entered_keys x keys) k) x
-          (λ k h. (in_grows (s.laters deck) (with_module (s.laters deck) key (s.news deck)) k (grows_entry (s.laters deck) key (s.news deck)) h.0, h.1)) (s.closed deck keys);
-      here = entry_in (s.laters deck) key (s.news deck);
+      under = least.under;
+      is = least.is;
+      ends = least.ends;
+      short = least.short;
+      closed = subst (Each P) same all;
+      here = entry_in d key (s.news deck);
       seen = seen_along x keys key seen;
     }

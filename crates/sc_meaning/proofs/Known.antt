@@ -1,5 +1,6 @@
 -- Decks as they grow, and decks whose unfoldings are the events of their keys' enterings.
-use Rattle.std.proofs.Common.{◌≡◌, ℕ, suc, ◌+◌, ◌<◌, ◌≤◌, List, [], ◌∷◌, ◌++◌, map, length, ◌⊎◌, inl, inr, Bool, true, false, cond, refl, sym, ap, ◌∙◌, subst, arith, length-append}
+use Rattle.std.proofs.Common.{◌≡◌, ℕ, suc, ◌+◌, ◌<◌, ◌≤◌, List, [], ◌∷◌, ◌++◌, map, length, ◌⊎◌, inl, inr, Bool, true, false, cond, Some, refl, sym, ap, ◌∙◌, subst, arith, length-append}
+use Rattle.std.specs.Prelude.{slice_get}
 use Rattle.std.proofs.lemmas.Bool.{cases_lt}
 use Rattle.sc_gate.specs.declared.gate.Wire.{Wire}
 use Rattle.sc_gate.specs.Gates.{class_of, AreDistinct}
@@ -26,9 +27,34 @@ most_if : (b : Bool) (n m : ℕ) → n ≤ m → cond b 0 (suc n) ≤ suc m
 most_if true n m h = omega arith
 most_if false n m h = omega arith
 
-number_at_most : (deck : List Module) (key : Key) → number_in_deck deck key ≤ length deck
+pub number_at_most : (deck : List Module) (key : Key) → number_in_deck deck key ≤ length deck
 number_at_most [] key = omega arith
 number_at_most (m ∷ deck) key = most_if (same_key m.key key) (number_in_deck deck key) (length deck) (number_at_most deck key)
+
+-- the module at the number of a key that is there
+pub record Stands (deck : List Module) (key : Key) : Type 0 where
+  pub found : Module
+  pub is : slice_get deck (number_in_deck deck key) ≡ Some found
+  pub named : found.key ≡ key
+
+pub stands : (deck : List Module) (key : Key) → In deck key → Stands deck key
+stands [] key i = absurd (omega arith)
+stands (m ∷ deck) key i = by (same_key m.key key) refl i (stands deck key)
+  where
+    by : (b : Bool) → same_key m.key key ≡ b → cond b 0 (suc (number_in_deck deck key)) < suc (length deck) → (In deck key → Stands deck key) → Stands (m ∷ deck) key
+    by true e h more = record {
+      found = m;
+      is = ap (λ (t : Bool). slice_get (m ∷ deck) (cond t 0 (suc (number_in_deck deck key)))) e;
+      named = (same_key_decides m.key key).0 e;
+    }
+    by false e h more =
+        let low : number_in_deck deck key < length deck = omega arith in
+        let rest = more low in
+        record {
+          found = rest.found;
+          is = ap (λ (t : Bool). slice_get (m ∷ deck) (cond t 0 (suc (number_in_deck deck key)))) e ∙ rest.is;
+          named = rest.named;
+        }
 
 -- ---- a deck that grows keeps its numbers
 
@@ -49,7 +75,7 @@ pub in_grows : (a b : List Module) (key : Key) → Grows a b → In a key → In
 in_grows a b key g i = let e = g.keeps key i in let m = g.more in omega arith
 
 -- the new module, if the key is new
-abbrev AddsBy : List Module → Key → List Item → Type 0
+abbrev pub AddsBy : List Module → Key → List Item → Type 0
 AddsBy deck key items =
     (In deck key × (with_module deck key items ≡ deck)) ⊎ ((number_in_deck deck key ≡ length deck) × (with_module deck key items ≡ pushed deck key items))
 
@@ -70,7 +96,7 @@ adds_if false m deck key items (inr (i, w)) s =
       ap (λ (t : Bool). cond t (m ∷ deck) (m ∷ with_module deck key items)) s ∙ ap (λ (d : List Module). m ∷ d) w,
     )
 
-adds : (deck : List Module) (key : Key) (items : List Item) → AddsBy deck key items
+pub adds : (deck : List Module) (key : Key) (items : List Item) → AddsBy deck key items
 adds [] key items = inr (refl, refl)
 adds (m ∷ deck) key items = adds_if (same_key m.key key) m deck key items (adds deck key items) refl
 
@@ -162,7 +188,7 @@ end_same true key other s h = (same_key_decides key other).0 s
 end_same false key other s h = absurd (omega arith)
 
 -- the last number is that of the new key alone
-end_is : (deck : List Module) (key other : Key) (items : List Item) → number_in_deck deck other ≡ length deck → In (pushed deck key items) other → key ≡ other
+pub end_is : (deck : List Module) (key other : Key) (items : List Item) → number_in_deck deck other ≡ length deck → In (pushed deck key items) other → key ≡ other
 end_is deck key other items n h =
     let e = number_end deck (record { key = key; items = items } ∷ []) other n in
     let l = length-append deck (record { key = key; items = items } ∷ []) in

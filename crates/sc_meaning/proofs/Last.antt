@@ -281,7 +281,7 @@ pub not_inside : (program : Program) (n : ℕ) (key : Key) (x : List Event) (own
 not_inside program n key x own e = not_inside_by program n n (omega arith) key x own e (each_or (Early program n) key x (body_early program n key x own e))
 
 -- a key that the events do not return is not added to a deck
-not_added : (choice : Choice) (x : List Event) (m : Made) (key : Key) → Each (λ k. same_key k key ≡ false) x → number_in_deck m.deck key ≡ length m.deck
+pub not_added : (choice : Choice) (x : List Event) (m : Made) (key : Key) → Each (λ k. same_key k key ≡ false) x → number_in_deck m.deck key ≡ length m.deck
     → number_in_deck (make choice x m).deck key ≡ length (make choice x m).deck
 not_added choice [] m key h n = n
 not_added choice (Enter k wires ∷ x) m key h n = not_added choice x (make_one choice (Enter k wires) m) key h.1 n

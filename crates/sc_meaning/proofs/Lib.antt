@@ -5,10 +5,12 @@ pub mod Distinct
 pub mod Entered
 pub mod Expansion
 pub mod Fitting
+pub mod Grown
 pub mod Heights
 pub mod Kept
 pub mod Known
 pub mod Last
+pub mod Leasts
 pub mod MoveActs
 pub mod MoveBodies
 pub mod MoveTypes
@@ -25,3 +27,4 @@ pub mod Tall
 pub mod Top
 pub mod TypedFunctions
 pub mod Walks
+pub mod Wholes

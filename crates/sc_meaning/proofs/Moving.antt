@@ -1,7 +1,7 @@
 -- The events of a body in its own numbers, and its events in the whole run: what the former make is what is read from the latter,
 -- and it unfolds to the latter again.
 use Rattle.std.proofs.Common.{◌≡◌, ℕ, ◌≤◌, List, [], ◌∷◌, ◌++◌, map, Option, Some, None, refl, sym, ap, ◌∙◌, subst, arith, append_assoc, append-nil, inl, inr}
-use Rattle.std.specs.Prelude.{replicate, sum, max}
+use Rattle.std.specs.Prelude.{replicate, sum, max, slice_index}
 use Rattle.std.specs.Option.{option_map}
 use Rattle.sc_base.specs.declared.Class.{Class}
 use Rattle.sc_base.specs.declared.Class.TheVariants.{Q}
@@ -19,7 +19,7 @@ use Rattle.sc_deck.specs.declared.item.Item.{Item}
 use Rattle.sc_deck.specs.declared.item.Item.TheVariants as item
 use Rattle.sc_deck.specs.Events.{Event, Enter, Fresh, Apply, Return, after_events}
 use Rattle.sc_deck.specs.Keys.{param_classes}
-use Rattle.sc_deck.specs.Modules.{Module}
+use Rattle.sc_deck.specs.Modules.{Module, heights_of}
 use Rattle.sc_deck.specs.Unfolding.{Unfolding, unfolding_at, unfold_items, unfoldings, placed, wires_from, numbered}
 use Rattle.sc_deck.proofs.SequenceLaws.{after_events-append}
 use Rattle.sc_meaning.specs.declared.choice.Choice.{Choice}
@@ -33,9 +33,11 @@ use Rattle.sc_meaning.specs.Run.{entered}
 use Rattle.sc_meaning.specs.Local.{nothing, local_body, local, Half, Made, with_half, half_items, with_entry, make}
 use Rattle.sc_meaning.specs.Kept.{Each, Ends, In, Seen, made_of}
 use Rattle.sc_meaning.proofs.Cut.{same_done, done_deeper}
+use Rattle.sc_meaning.proofs.Grown.{Extends, extends_none, extends_then, extends_entry, AreCalled, called_none, called_then, Closed, closed_entry, call_called}
 use Rattle.sc_meaning.proofs.Heights.{seen_self, seen_along, Least, tallest, tallest-append, no_callees, Heights, heights_back, Tight, tight_then, each_front}
 use Rattle.sc_meaning.proofs.Last.{each_append, each_weaker, each_mid, Early, early_up, body_early}
 use Rattle.sc_meaning.proofs.Known.{Grows, grows_none, grows_then, grows_entry, in_grows, entry_in, with_same, Passes, Knows, knows_back, Good, good_entry}
+use Rattle.sc_meaning.proofs.Leasts.{least_of, HeightsStand, heights_known, stand_entry}
 use Rattle.sc_meaning.proofs.Opening.{local_is}
 use Rattle.sc_meaning.proofs.Places.{Fine, fine_backs, gate_back}
 use Rattle.sc_meaning.proofs.Ran.{make-append}
@@ -174,6 +176,10 @@ module _ (program : Program) (choice : Choice) (E : Key → List Wire → Number
         → unfold_items us (news deck ++ more) places next ≡ chosen_events choice gev ++ unfold_items us more places' next'
     -- each entering
     pub calls : AreCalls next gev
+    -- the deck grows at its end: what is new is called, and what the bodies of its keys enter is there
+    pub extends : (deck : List Module) → Extends deck (laters deck)
+    pub whole : (deck : List Module) → Closed program deck → Closed program (laters deck) × AreCalled deck (laters deck) (news deck)
+    pub stand : (deck : List Module) → HeightsStand program deck → HeightsStand program (laters deck)
     -- what is entered has returned
     pub there : (deck : List Module) → Each (λ k. In (laters deck) k) gev
     -- the same in local numbers, and it was entered
@@ -195,6 +201,9 @@ module _ (program : Program) (choice : Choice) (E : Key → List Wire → Number
     again = λ deck more g. (refl, refl);
     unfolds = λ us deck more k. refl;
     calls = tt;
+    extends = extends_none;
+    whole = λ deck c. (c, called_none deck []);
+    stand = λ deck h. h;
     there = λ deck. tt;
     closed = λ deck keys. tt;
     tall = λ H deck h. tt;
@@ -234,6 +243,13 @@ module _ (program : Program) (choice : Choice) (E : Key → List Wire → Number
         ∙ sym (append_assoc (chosen_events choice g1) (chosen_events choice g2) (unfold_items us more p'' n''))
         ∙ ap (λ (es : List Event). es ++ unfold_items us more p'' n'') (sym (chosen-append choice g1 g2));
     calls = calls-append n g1 g2 a.calls (subst (λ (k : Numbers). AreCalls k g2) a.fresh b.calls);
+    extends = λ deck. extends_then deck (a.laters deck) (b.laters (a.laters deck)) (a.extends deck) (b.extends (a.laters deck));
+    whole = λ deck c.
+        let d : List Module = a.laters deck in
+        let x = a.whole deck c in
+        let y = b.whole d x.0 in
+        (y.0, called_then deck d (b.laters d) (b.extends d) (a.news deck) (b.news d) x.1 y.1);
+    stand = λ deck h. b.stand (a.laters deck) (a.stand deck h);
     there = λ deck.
         let d : List Module = a.laters deck in
         let P : Key → Type 0 = λ k. In (b.laters d) k in
@@ -276,6 +292,9 @@ module _ (program : Program) (choice : Choice) (E : Key → List Wire → Number
     again = λ deck more g. (refl, refl);
     unfolds = λ us deck more k. refl;
     calls = tt;
+    extends = extends_none;
+    whole = λ deck k. (k, called_none deck (item.Fresh c n ∷ []));
+    stand = λ deck h. h;
     there = λ deck. tt;
     closed = λ deck keys. tt;
     tall = λ H deck h. tt;
@@ -301,6 +320,9 @@ module _ (program : Program) (choice : Choice) (E : Key → List Wire → Number
         ∙ ap (λ (gs : List Gate). map Apply gs ++ unfold_items us more places next) (sym (chosen_rename choice (placed places) g))
         ∙ ap (λ (es : List Event). es ++ unfold_items us more places next) (sym (append-nil (map Apply (chosen choice (rename_gate (placed places) g)))));
     calls = tt;
+    extends = extends_none;
+    whole = λ deck c. (c, called_none deck (map item.Gate (chosen choice g)));
+    stand = λ deck h. h;
     there = λ deck. tt;
     closed = λ deck keys. tt;
     tall = λ H deck h. tt;
@@ -333,6 +355,18 @@ module _ (program : Program) (choice : Choice) (E : Key → List Wire → Number
 
   same_laters : (lev g h : List Event) (p q p' q' : List Wire) (n m n' m' : Numbers) (a : Moves lev g p n p' n') (b : Moves lev h q m q' m') (deck : List Module) → a.laters deck ≡ b.laters deck
   same_laters lev g h p q p' q' n m n' m' a b deck = ap (λ (x : Made). x.deck) (sym (a.does [] deck []) ∙ b.does [] deck [])
+
+  inside_done : (key : Key) (lev : List Event) (inside : Inside key lev) → local_body program (local program inside.depth) key ≡ Done lev inside.ends.own
+  inside_done key lev inside =
+      subst (λ (es : List Event). local_body program (local program inside.depth) key ≡ Done es inside.ends.own) inside.same inside.ends.is
+
+  -- what is said of its keys is said wherever the body is done
+  inside_all : (P : Key → Type 0) (key : Key) (lev : List Event) (inside : Inside key lev) → Each P lev
+      → (n : ℕ) (x : List Event) (own : Numbers) → local_body program (local program n) key ≡ Done x own → Each P x
+  inside_all P key lev inside all n x own e =
+      let q : Done x own ≡ Done lev inside.ends.own = same_done program n inside.depth key x lev own inside.ends.own e (inside_done key lev inside) in
+      let same : lev ≡ x = cc in
+      subst (Each P) same all
 
   -- what its key makes, where calls may go 256 bodies deep
   makes_alone : (key : Key) (lev : List Event) (deck : List Module) (items : List Item) → Inside key lev
@@ -410,6 +444,22 @@ module _ (program : Program) (choice : Choice) (E : Key → List Wire → Number
           },
           calls-append next gev (Return key ∷ []) a.calls tt,
         );
+        extends = λ deck. extends_then deck (a.laters deck) (deck' deck) (a.extends deck) (extends_entry (a.laters deck) key (a.news deck));
+        whole = λ deck c.
+            let d : List Module = a.laters deck in
+            let x = a.whole deck c in
+            let made : (make choice lev (made_of [] deck [])).deck ≡ d = ap (λ (m : Made). m.deck) (a.does [] deck []) in (
+              closed_entry program d key (a.news deck) x.0
+                  (inside_all (λ k. In d k) key lev inside (each_weaker (λ k. In d k × Seen (entered_keys lev []) k) (λ k. In d k) lev (λ k h. h.0) (a.closed deck []))),
+              call_called program choice deck d key (a.news deck) ws lev inside.depth inside.ends.own c (inside_done key lev inside) made x.1,
+            );
+        stand = λ deck h.
+            let d : List Module = a.laters deck in
+            let H : ℕ → ℕ = slice_index (heights_of d) in
+            let s = a.stand deck h in
+            let known = heights_known program d s in
+            stand_entry program d key (a.news deck) s
+            (least_of program inside.depth key lev inside.ends.own H d (a.news deck) (inside_done key lev inside) known (a.tall H deck known) (λ m e. a.tight H deck m e));
         there = λ deck.
             let d : List Module = a.laters deck in
             let P : Key → Type 0 = λ k. In (deck' deck) k in

@@ -33,7 +33,7 @@ no_places = record { sized = none_sized; distinct = tt; below = tt }
 abbrev pub all_events : Choice → Program → Key → List Wire → Numbers → List Event
 all_events choice program key wires next = chosen_events choice (events_of (enter program 256 key wires next))
 
-enter_is : (program : Program) (n : ℕ) (key : Key) (wires : List Wire) (next : Numbers)
+pub enter_is : (program : Program) (n : ℕ) (key : Key) (wires : List Wire) (next : Numbers)
     → enter program (suc n) key wires next ≡ entered key wires (body program (enter program n) (definition program key.name) key.args wires next)
 unfolding enter
 enter_is program n key wires next = refl

@@ -1,6 +1,7 @@
 pub mod Answers
 pub mod Arguments
 pub mod ClassicalCalls
+pub mod Decks
 pub mod Definitions
 pub mod Depth
 pub mod Enterings

@@ -7,6 +7,7 @@ ghost use Rattle.sc_meaning.specs.declared.choice.Choice.TheVariants.{Keep};
 ghost use Rattle.sc_meaning.specs.declared.fault.ElabFault.TheVariants.{OutOfRange, Repeated, TooWide, TooDeep};
 ghost use Rattle.sc_meaning.specs.Answers.{LocalAnswers};
 ghost use Rattle.sc_meaning.specs.ClassicalCalls.{CallsXor};
+ghost use Rattle.sc_meaning.specs.Decks.{AllWhole, AllShallow};
 ghost use Rattle.sc_meaning.specs.Depth.{DepthCuts};
 ghost use Rattle.sc_meaning.specs.Enterings.{EachIsInstance};
 ghost use Rattle.sc_meaning.specs.Examples.{line, pair, pair_events, past_the_end, twice_one_wire, calls_of_g, calls_of_g_events, call_of_one, call_of_one_events, sum_gates, endless, no_round, ever_wider};
@@ -79,6 +80,13 @@ pub fn kept_bodies_stand()
 /// gates of the meaning and, gates aside, the events of the run in their order; with the gates kept it is the run.
 pub fn instances_expand()
     ensures { AllExpand }
+{}
+
+/// Where the run of a source is not refused, each instance but main, which is the last, is called by a later one, and no height
+/// passes 256.
+pub fn instances_are_whole()
+    ensures whole { AllWhole }
+    ensures shallow { AllShallow }
 {}
 
 /// In a run that is not refused, the gates of each call of a classical function xor its value into its output, and leave its words and
