@@ -1,0 +1,153 @@
+//! What the options and operands of a mode ask for.
+ghost use Rattle.std.specs.Prelude.{◌≡◌, true, false, List, Some, None, IfOk, IsErrOf};
+ghost use Rattle.clap.specs.Matches.{found_of, first_value};
+ghost use Rattle.sc_words.specs.Words.{Piece, stands, is_flag, asked_of, choice_of};
+ghost use Rattle.sc_words.specs.WordsCommands.{AreOf, asked_by};
+
+use crate::choice::Choice;
+use crate::request::{Request, WordsFault};
+use crate::words::command::OPERANDS;
+use crate::words::table::{Mode, OptionName};
+use crate::words::times::read_number;
+use crate::words::values::{Values, read_values};
+use clap::ArgMatches;
+use sc_base::Text;
+use std::alloc::Global;
+
+/// The most gates of a flat text, where the words name no limit.
+const DEFAULT_LIMIT: u64 = 10_000_000;
+
+/// The largest drill.
+const LARGEST_DRILL: u64 = 50_000;
+
+/// Whether a flag stands.
+fn stands(matches: &ArgMatches, option: OptionName) -> bool
+{
+    matches.get_flag(option.text())
+}
+
+/// Whether Toffoli and Fredkin gates stay.
+fn choice_of(matches: &ArgMatches) -> Choice
+{
+    if stands(matches, OptionName::Keep) {
+        Choice::Keep
+    } else {
+        Choice::Replace
+    }
+}
+
+/// The request of `flat`.
+fn flat_request(matches: &ArgMatches, values: &Values, file: Text) -> Request
+{
+    Request::Flat {
+        file,
+        choice: choice_of(matches),
+        limit: values.limit.unwrap_or(DEFAULT_LIMIT),
+        kinds: stands(matches, OptionName::Kinds),
+        burst: stands(matches, OptionName::Burst),
+        window: stands(matches, OptionName::Window),
+        reach: stands(matches, OptionName::Reach),
+    }
+}
+
+/// The request of `cancel`.
+fn cancel_request(matches: &ArgMatches, file: Text) -> Request
+{
+    Request::Cancel {
+        file,
+        choice: choice_of(matches),
+        kinds: stands(matches, OptionName::Kinds),
+        burst: stands(matches, OptionName::Burst),
+        window: stands(matches, OptionName::Window),
+        reach: stands(matches, OptionName::Reach),
+    }
+}
+
+/// The request of `schedule`, which needs both sizes.
+fn schedule_request(matches: &ArgMatches, values: Values, file: Text) -> Option<Request>
+{
+    Some(Request::Schedule {
+        file,
+        choice: choice_of(matches),
+        k: values.regions?,
+        d: values.width?,
+        lpfs: values.lpfs.unwrap_or(false),
+        times: values.times,
+    })
+}
+
+/// The request of `coarse`, which needs both sizes.
+fn coarse_request(matches: &ArgMatches, values: &Values, file: Text) -> Option<Request>
+{
+    Some(Request::Coarse {
+        file,
+        choice: choice_of(matches),
+        k: values.regions?,
+        d: values.width?,
+        lpfs: values.lpfs.unwrap_or(false),
+    })
+}
+
+/// The request of `check`, which needs a second operand.
+fn check_request(alloc: Global, matches: &ArgMatches, flat: Text) -> Result<Request, WordsFault>
+{
+    let Some(schedule) = matches.get_str(OPERANDS[1]) else {
+        return Err(WordsFault::Usage);
+    };
+    let schedule = Text::from_bytes(alloc, schedule.as_bytes())?;
+    Ok(Request::Check { flat, schedule })
+}
+
+/// The request of `drill`, whose operand is a number.
+fn drill_request(operand: &Text) -> Option<Request>
+{
+    let n = read_number(operand.as_bytes(), 1, LARGEST_DRILL)? as u32;
+    Some(Request::Drill { n })
+}
+
+/// What a mode asks for with its first operand, its flags and its values.
+fn ask_with(
+    alloc: Global,
+    mode: Mode,
+    matches: &ArgMatches,
+    values: Values,
+    file: Text,
+) -> Result<Request, WordsFault>
+{
+    let choice = choice_of(matches);
+    let request = match mode {
+        Mode::Hier => Some(Request::Hier { file, choice }),
+        Mode::Flat => Some(flat_request(matches, &values, file)),
+        Mode::Count => Some(Request::Count {
+            file,
+            choice,
+            times: values.times,
+        }),
+        Mode::Schedule => schedule_request(matches, values, file),
+        Mode::Expand => Some(Request::Expand {
+            file,
+            limit: values.limit.unwrap_or(DEFAULT_LIMIT),
+        }),
+        Mode::Check => return check_request(alloc, matches, file),
+        Mode::Drill => drill_request(&file),
+        Mode::Coarse => coarse_request(matches, &values, file),
+        Mode::Open => Some(Request::ToOpen { file, choice }),
+        Mode::Reopen => Some(Request::FromOpen { file }),
+        Mode::Cancel => Some(cancel_request(matches, file)),
+    };
+    request.ok_or(WordsFault::Usage)
+}
+
+/// What the options and operands of a mode ask for. `Usage` says that they ask for nothing: an operand or a size is
+/// missing, or a value is not in its form.
+pub(crate) fn ask(alloc: Global, mode: Mode, matches: &ArgMatches) -> Result<Request, WordsFault>
+{
+    let Some(values) = read_values(matches) else {
+        return Err(WordsFault::Usage);
+    };
+    let Some(first) = matches.get_str(OPERANDS[0]) else {
+        return Err(WordsFault::Usage);
+    };
+    let file = Text::from_bytes(alloc, first.as_bytes())?;
+    ask_with(alloc, mode, matches, values, file)
+}

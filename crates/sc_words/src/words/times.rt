@@ -1,0 +1,65 @@
+//! Numbers, orders and times lists in words.
+ghost use Rattle.std.specs.Prelude.{◌≡◌, ◌≤◌, ◌<◌, ◌^◌, ℕ, List as Values, Some, replicate, length};
+ghost use Rattle.sc_base.specs.GateNames.{place_of};
+ghost use Rattle.sc_words.specs.Words.{number, is_lpfs, times_of, times_from, with_times_entry};
+
+use sc_base::{GateName, read_u64};
+use sc_gate::Times;
+
+/// The most digits of a number.
+const MOST_DIGITS: usize = 20;
+
+/// The longest duration of a gate.
+const LONGEST: u64 = 1_000_000;
+
+/// The number of 1 to 20 decimal digits in the text, if it lies from `low` to `high`.
+pub(crate) fn read_number(text: &[u8], low: u64, high: u64) -> Option<u64>
+    ensures { result ≡ number low high text.now }
+{
+    if text.len() > MOST_DIGITS {
+        return None;
+    }
+    match read_u64(text) {
+        Some(number) if low <= number && number <= high => Some(number),
+        _ => None,
+    }
+}
+
+/// Whether the order in the text is `lpfs`, and None where it is neither that nor `rcp`.
+pub(crate) fn read_order(text: &str) -> Option<bool>
+    ensures { result ≡ is_lpfs text.now }
+{
+    if text == "lpfs" {
+        Some(true)
+    } else if text == "rcp" {
+        Some(false)
+    } else {
+        None
+    }
+}
+
+/// The gate and the duration of an entry.
+fn read_entry(entry: &str) -> Option<(GateName, u32)>
+{
+    let (gate, duration) = entry.split_once('=')?;
+    let gate = GateName::from_text(gate.as_bytes())?;
+    let duration = read_number(duration.as_bytes(), 1, LONGEST)?;
+    Some((gate, duration as u32))
+}
+
+/// The durations of the times list in the text, with 1 for each gate that has no entry there.
+pub(crate) fn read_times(text: &str) -> Option<Times>
+    ensures { result ≡ times_of text.now }
+{
+    let mut times = Times::ones();
+    let mut least = 0;
+    for entry in text.split(',') {
+        let (gate, duration) = read_entry(entry)?;
+        if gate.place() < least {
+            return None;
+        }
+        least = gate.place() + 1;
+        times.set(gate, duration);
+    }
+    Some(times)
+}
