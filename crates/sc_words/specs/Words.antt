@@ -225,21 +225,22 @@ number low high text =
 abbrev pub is_lpfs : List ℕ → Option Bool
 is_lpfs text = if bytes_eq (codes "lpfs") text then Some true else (if bytes_eq (codes "rcp") text then Some false else None)
 
--- one duration more: the names stand in their order, so that the least place at which one may stand grows
-abbrev pub with_entry : ℕ → List ℕ → GateName → ℕ → (ℕ → List ℕ → Option (List ℕ)) → Option (List ℕ)
-with_entry least times gate duration rest =
-    if nat_le least (place_of gate) then rest (place_of gate + 1) (slice_set times (place_of gate) duration) else None
-
 -- an entry is the name of a gate, `=`, and a number from 1 to 1,000,000
-abbrev pub with_times_entry : ℕ → List ℕ → List ℕ → (ℕ → List ℕ → Option (List ℕ)) → Option (List ℕ)
-with_times_entry least times entry rest = if list_any is_equals entry
-    then option_and_then (λ gate. option_and_then (λ duration. with_entry least times gate duration rest) (number 1 1000000 (after_first is_equals entry)))
-        (gate_named (before_first is_equals entry))
+abbrev pub times_entry : List ℕ → Option (GateName × ℕ)
+times_entry entry = if list_any is_equals entry
+    then option_and_then (λ gate. option_map (λ duration. (gate, duration)) (number 1 1000000 (after_first is_equals entry))) (gate_named (before_first is_equals entry))
     else None
 
+-- the names stand in their order, each at most once, so that the least place at which one may stand grows
+abbrev pub with_entry : ℕ → List ℕ → (ℕ → List ℕ → Option (List ℕ)) → Option (GateName × ℕ) → Option (List ℕ)
+with_entry least times rest None = None
+with_entry least times rest (Some entry) =
+    if nat_le least (place_of entry.0) then rest (place_of entry.0 + 1) (slice_set times (place_of entry.0) entry.1) else None
+
+-- the durations after some entries, from those before and the least place at which a name may stand
 abbrev pub times_from : List (List ℕ) → ℕ → List ℕ → Option (List ℕ)
 times_from [] least times = Some times
-times_from (entry ∷ entries) least times = with_times_entry least times entry (times_from entries)
+times_from (entry ∷ entries) least times = with_entry least times (times_from entries) (times_entry entry)
 
 -- the durations of a times list: entries joined by `,`; names that do not stand there have 1
 abbrev pub times_of : List ℕ → Option (List ℕ)
@@ -251,15 +252,15 @@ in_form form None = Some None
 in_form form (Some text) = option_map Some (form text)
 
 -- the values of the options, where all are in their forms
-abbrev pub values_of : List Piece → Option Values
-values_of pieces =
+abbrev pub values_by : (OptionName → Option (List ℕ)) → Option Values
+values_by value =
     option_and_then (λ limit. option_and_then (λ regions. option_and_then (λ width. option_and_then (λ lpfs. option_map
     (λ times. record { limit = limit; regions = regions; width = width; lpfs = lpfs; times = times })
-    (in_form times_of (value_of name.Times pieces)))
-    (in_form is_lpfs (value_of name.Order pieces)))
-    (in_form (number 1 1000000) (value_of name.Width pieces)))
-    (in_form (number 1 1000000) (value_of name.Regions pieces)))
-    (in_form (number 0 18446744073709551615) (value_of name.Limit pieces))
+    (in_form times_of (value name.Times)))
+    (in_form is_lpfs (value name.Order)))
+    (in_form (number 1 1000000) (value name.Width)))
+    (in_form (number 1 1000000) (value name.Regions)))
+    (in_form (number 0 18446744073709551615) (value name.Limit))
 
 -- ---- the request
 
@@ -288,7 +289,7 @@ asked_of mode.Cancel pieces v file =
 
 -- what a mode asks for with its options and operands
 abbrev pub asked : Mode → List Piece → Option Request
-asked m pieces = option_and_then (λ v. option_and_then (asked_of m pieces v) (slice_get (operands_of pieces) 0)) (values_of pieces)
+asked m pieces = option_and_then (λ v. option_and_then (asked_of m pieces v) (slice_get (operands_of pieces) 0)) (values_by (λ o. value_of o pieces))
 
 -- what the words after a mode ask for
 abbrev pub row_request : Mode → List (List ℕ) → Option Request

@@ -3,6 +3,7 @@ use Rattle.std.specs.Prelude.{◌≡◌, ◌≤◌, ◌⊎◌, ℕ, Bool, true, 
 use Rattle.clap.specs.Matches.{first_value, one_text}
 use Rattle.clap.specs.Simple.{App, new_rule, new_shape, on_top}
 use Rattle.clap.specs.Walk.{Rule}
+use Rattle.clap.specs.declared.builder.action.ArgAction.{ArgAction}
 use Rattle.clap.specs.declared.builder.action.ArgAction.TheVariants.{Set, SetTrue}
 use Rattle.clap.specs.declared.parser.matches.Found.{Found}
 use Rattle.sc_words.specs.Words.{Piece, asked, fits, is_flag, is_single, kept_if, mode_text, operand_count, operands_of, option_text, options_of, pieces_from, stands, value_of}
@@ -12,9 +13,16 @@ use Rattle.sc_words.specs.declared.words.table.OptionName.{OptionName}
 
 -- ---- the command
 
--- an option with a long name, which has no value or one
+-- an option has no value or one
+abbrev pub action_of : OptionName → ArgAction
+action_of o = if is_flag o then SetTrue else Set
+
+-- an argument with a long name
+abbrev pub named_rule : List ℕ → ArgAction → Rule
+named_rule name action = record (new_rule name) { long = Some name; action = Some action }
+
 abbrev pub option_rule : OptionName → Rule
-option_rule o = record (new_rule (option_text o)) { long = Some (option_text o); action = Some (if is_flag o then SetTrue else Set) }
+option_rule o = named_rule (option_text o) (action_of o)
 
 -- the names of operands in a command
 abbrev pub operand_names : List (List ℕ)

@@ -1,4 +1,6 @@
 //! What the words ask for.
+ghost use Rattle.std.specs.Prelude.{◌≡◌};
+
 use crate::choice::Choice;
 use sc_base::{Memory, Text};
 use sc_gate::Times;
@@ -8,7 +10,10 @@ use sc_gate::Times;
 #[derive(Debug, Drop)]
 pub enum Request {
     /// The hierarchical text of the source under a name.
-    Hier { file: Text, choice: Choice },
+    Hier {
+        file: Text,
+        choice: Choice,
+    },
     /// The flat text of the source under a name, of at most `limit` gates, and the reports of the probes that are
     /// asked for.
     Flat {
@@ -37,11 +42,19 @@ pub enum Request {
         times: Option<Times>,
     },
     /// The flat text of the hierarchical text under a name, of at most `limit` gates.
-    Expand { file: Text, limit: u64 },
+    Expand {
+        file: Text,
+        limit: u64,
+    },
     /// The verdict on the schedule under the second name, for the gates of the flat text under the first.
-    Check { flat: Text, schedule: Text },
+    Check {
+        flat: Text,
+        schedule: Text,
+    },
     /// The summary of the drill of size `n`, from 1 to 50,000.
-    Drill { n: u32 },
+    Drill {
+        n: u32,
+    },
     /// The coarse schedule of the source under a name, with `k`, `d` and `lpfs` as in `Schedule`.
     Coarse {
         file: Text,
@@ -51,9 +64,14 @@ pub enum Request {
         lpfs: bool,
     },
     /// The OpenQASM text of the source under a name.
-    ToOpen { file: Text, choice: Choice },
+    ToOpen {
+        file: Text,
+        choice: Choice,
+    },
     /// The flat text of the OpenQASM text under a name.
-    FromOpen { file: Text },
+    FromOpen {
+        file: Text,
+    },
     /// The flat text of the source under a name after inverse pairs are cancelled, and the reports of the probes that
     /// are asked for.
     Cancel {

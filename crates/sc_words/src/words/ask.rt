@@ -1,8 +1,10 @@
 //! What the options and operands of a mode ask for.
-ghost use Rattle.std.specs.Prelude.{◌≡◌, true, false, List, Some, None, IfOk, IsErrOf};
-ghost use Rattle.clap.specs.Matches.{found_of, first_value};
+ghost use Rattle.std.specs.Prelude.{◌≡◌, true, List, Some, None, IfOk, IsErrOf};
+ghost use Rattle.clap.specs.Matches.{found_of};
 ghost use Rattle.sc_words.specs.Words.{Piece, stands, is_flag, asked_of, choice_of};
 ghost use Rattle.sc_words.specs.WordsCommands.{AreOf, asked_by};
+ghost use Rattle.sc_words.specs.declared.words.table.Mode.{Mode as Modes};
+ghost use Rattle.sc_words.specs.declared.words.values.Values.{Values as Given};
 
 use crate::choice::Choice;
 use crate::request::{Request, WordsFault};
@@ -22,12 +24,15 @@ const LARGEST_DRILL: u64 = 50_000;
 
 /// Whether a flag stands.
 fn stands(matches: &ArgMatches, option: OptionName) -> bool
+    requires { is_flag option ≡ true }
+    ensures { (mode : Modes) (pieces : List Piece) → AreOf mode (found_of matches.now) pieces → result ≡ stands option pieces }
 {
     matches.get_flag(option.text())
 }
 
 /// Whether Toffoli and Fredkin gates stay.
 fn choice_of(matches: &ArgMatches) -> Choice
+    ensures { (mode : Modes) (pieces : List Piece) → AreOf mode (found_of matches.now) pieces → result ≡ choice_of pieces }
 {
     if stands(matches, OptionName::Keep) {
         Choice::Keep
@@ -38,6 +43,7 @@ fn choice_of(matches: &ArgMatches) -> Choice
 
 /// The request of `flat`.
 fn flat_request(matches: &ArgMatches, values: &Values, file: Text) -> Request
+    ensures { (mode : Modes) (pieces : List Piece) → AreOf mode (found_of matches.now) pieces → asked_of Mode.Flat pieces values.now file ≡ Some result }
 {
     Request::Flat {
         file,
@@ -52,6 +58,7 @@ fn flat_request(matches: &ArgMatches, values: &Values, file: Text) -> Request
 
 /// The request of `cancel`.
 fn cancel_request(matches: &ArgMatches, file: Text) -> Request
+    ensures { (mode : Modes) (pieces : List Piece) (values : Given) → AreOf mode (found_of matches.now) pieces → asked_of Mode.Cancel pieces values file ≡ Some result }
 {
     Request::Cancel {
         file,
@@ -65,6 +72,7 @@ fn cancel_request(matches: &ArgMatches, file: Text) -> Request
 
 /// The request of `schedule`, which needs both sizes.
 fn schedule_request(matches: &ArgMatches, values: Values, file: Text) -> Option<Request>
+    ensures { (mode : Modes) (pieces : List Piece) → AreOf mode (found_of matches.now) pieces → asked_of Mode.Schedule pieces values file ≡ result }
 {
     Some(Request::Schedule {
         file,
@@ -78,6 +86,7 @@ fn schedule_request(matches: &ArgMatches, values: Values, file: Text) -> Option<
 
 /// The request of `coarse`, which needs both sizes.
 fn coarse_request(matches: &ArgMatches, values: &Values, file: Text) -> Option<Request>
+    ensures { (mode : Modes) (pieces : List Piece) → AreOf mode (found_of matches.now) pieces → asked_of Mode.Coarse pieces values.now file ≡ result }
 {
     Some(Request::Coarse {
         file,
@@ -90,6 +99,8 @@ fn coarse_request(matches: &ArgMatches, values: &Values, file: Text) -> Option<R
 
 /// The request of `check`, which needs a second operand.
 fn check_request(alloc: Global, matches: &ArgMatches, flat: Text) -> Result<Request, WordsFault>
+    ensures asked { IfOk result (λ r. (mode : Modes) (pieces : List Piece) (values : Given) → AreOf mode (found_of matches.now) pieces → asked_of Mode.Check pieces values flat ≡ Some r) }
+    ensures usage { IsErrOf result WordsFault.Usage → (mode : Modes) (pieces : List Piece) (values : Given) → AreOf mode (found_of matches.now) pieces → asked_of Mode.Check pieces values flat ≡ None }
 {
     let Some(schedule) = matches.get_str(OPERANDS[1]) else {
         return Err(WordsFault::Usage);
@@ -100,6 +111,7 @@ fn check_request(alloc: Global, matches: &ArgMatches, flat: Text) -> Result<Requ
 
 /// The request of `drill`, whose operand is a number.
 fn drill_request(operand: &Text) -> Option<Request>
+    ensures { (pieces : List Piece) (values : Given) → asked_of Mode.Drill pieces values operand.now ≡ result }
 {
     let n = read_number(operand.as_bytes(), 1, LARGEST_DRILL)? as u32;
     Some(Request::Drill { n })
@@ -113,6 +125,8 @@ fn ask_with(
     values: Values,
     file: Text,
 ) -> Result<Request, WordsFault>
+    ensures asked { IfOk result (λ r. (pieces : List Piece) → AreOf mode (found_of matches.now) pieces → asked_of mode pieces values file ≡ Some r) }
+    ensures usage { IsErrOf result WordsFault.Usage → (pieces : List Piece) → AreOf mode (found_of matches.now) pieces → asked_of mode pieces values file ≡ None }
 {
     let choice = choice_of(matches);
     let request = match mode {
@@ -141,6 +155,8 @@ fn ask_with(
 /// What the options and operands of a mode ask for. `Usage` says that they ask for nothing: an operand or a size is
 /// missing, or a value is not in its form.
 pub(crate) fn ask(alloc: Global, mode: Mode, matches: &ArgMatches) -> Result<Request, WordsFault>
+    ensures asked { IfOk result (λ r. (pieces : List Piece) → AreOf mode (found_of matches.now) pieces → asked_by mode pieces ≡ Some r) }
+    ensures usage { IsErrOf result WordsFault.Usage → (pieces : List Piece) → AreOf mode (found_of matches.now) pieces → asked_by mode pieces ≡ None }
 {
     let Some(values) = read_values(matches) else {
         return Err(WordsFault::Usage);

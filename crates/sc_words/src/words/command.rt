@@ -1,11 +1,11 @@
 //! The command of a mode, and the matches of its words.
-ghost use Rattle.std.specs.Prelude.{◌≡◌, map, false, take, Some, None, IfOk, IsErrOf};
+ghost use Rattle.std.specs.Prelude.{◌≡◌, ◌≤◌, map, false, take, None, IfOk, IsErrOf};
 ghost use Rattle.std.specs.Rc.{rc_str_bytes};
 ghost use Rattle.clap.specs.Matches.{found_of};
 ghost use Rattle.clap.specs.Simple.{app_of, new_rule};
 ghost use Rattle.clap.specs.Walk.{rule_of};
 ghost use Rattle.sc_words.specs.Words.{row_request};
-ghost use Rattle.sc_words.specs.WordsCommands.{AreOfWords, command_of, option_rule, with_rules};
+ghost use Rattle.sc_words.specs.WordsCommands.{AreOfWords, action_of, command_of, named_rule, operand_names, option_rule, with_rules};
 
 use crate::request::WordsFault;
 use crate::words::table::{Mode, OptionName};
@@ -18,19 +18,23 @@ use std::rc::RcStr;
 /// The names of operands in a command, by their places.
 pub(crate) const OPERANDS: [&str; 2] = ["first", "second"];
 
-/// The argument of an option.
-fn option_argument<'a>(alloc: Global, option: OptionName) -> Arg<'a>
-    ensures rule { rule_of result ≡ option_rule option }
-    ensures local { result.global ≡ false }
+/// How an option is read: it has no value or one.
+fn action_of(option: OptionName) -> ArgAction
+    ensures { result ≡ action_of option }
 {
-    let action = if option.is_flag() {
+    if option.is_flag() {
         ArgAction::SetTrue
     } else {
         ArgAction::Set
-    };
-    Arg::new(alloc, option.text())
-        .long(option.text())
-        .action(action)
+    }
+}
+
+/// The argument with a long name.
+fn named_argument<'a>(alloc: Global, name: &'a str, action: ArgAction) -> Arg<'a>
+    ensures rule { rule_of result ≡ named_rule name.now action }
+    ensures local { result.global ≡ false }
+{
+    Arg::new(alloc, name).long(name).action(action)
 }
 
 /// The command with these options.
@@ -42,21 +46,23 @@ fn with_options<'a>(
     ensures { IfOk result (λ r. app_of r ≡ with_rules (app_of command.entry) (map option_rule options.now)) }
 {
     for option in options {
-        command = command.arg(option_argument(alloc, *option))?;
+        let name: &'a str = option.text();
+        command = command.arg(named_argument(alloc, name, action_of(*option)))?;
     }
     Ok(command)
 }
 
-/// The command with operands of these names.
+/// The command with the first operands.
 fn with_operands<'a>(
     alloc: Global,
     mut command: Command<'a>,
-    names: &[&'a str],
+    count: usize,
 ) -> Result<Command<'a>, Memory>
-    ensures { IfOk result (λ r. app_of r ≡ with_rules (app_of command.entry) (map (λ name. new_rule name.now) names.now)) }
+    requires { count ≤ 2 }
+    ensures { IfOk result (λ r. app_of r ≡ with_rules (app_of command.entry) (map new_rule (take count operand_names))) }
 {
-    for name in names {
-        command = command.arg(Arg::new(alloc, name))?;
+    for name in &OPERANDS[..count] {
+        command = command.arg(Arg::new(alloc, *name))?;
     }
     Ok(command)
 }
@@ -65,11 +71,12 @@ fn with_operands<'a>(
 fn command_of<'a>(alloc: Global, mode: Mode) -> Result<Command<'a>, Memory>
     ensures { IfOk result (λ r. app_of r ≡ command_of mode) }
 {
-    let command = Command::new(alloc, mode.text())
+    let name: &'a str = mode.text();
+    let command = Command::new(alloc, name)
         .no_binary_name(true)
         .disable_help_flag(true);
     let command = with_options(alloc, command, mode.options())?;
-    with_operands(alloc, command, &OPERANDS[..mode.operand_count()])
+    with_operands(alloc, command, mode.operand_count())
 }
 
 /// The options and operands in the words after a mode. `Usage` says that the words are none of its row, or that a

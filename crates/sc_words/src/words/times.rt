@@ -1,7 +1,6 @@
 //! Numbers, orders and times lists in words.
-ghost use Rattle.std.specs.Prelude.{◌≡◌, ◌≤◌, ◌<◌, ◌^◌, ℕ, List as Values, Some, replicate, length};
-ghost use Rattle.sc_base.specs.GateNames.{place_of};
-ghost use Rattle.sc_words.specs.Words.{number, is_lpfs, times_of, times_from, with_times_entry};
+ghost use Rattle.std.specs.Prelude.{◌≡◌, ◌≤◌, IfSome};
+ghost use Rattle.sc_words.specs.Words.{number, is_lpfs, times_of, times_entry};
 
 use sc_base::{GateName, read_u64};
 use sc_gate::Times;
@@ -40,6 +39,9 @@ pub(crate) fn read_order(text: &str) -> Option<bool>
 
 /// The gate and the duration of an entry.
 fn read_entry(entry: &str) -> Option<(GateName, u32)>
+    ensures entry { result ≡ times_entry entry.now }
+    ensures low { IfSome result (λ r. 1 ≤ r.1) }
+    ensures high { IfSome result (λ r. r.1 ≤ 1000000) }
 {
     let (gate, duration) = entry.split_once('=')?;
     let gate = GateName::from_text(gate.as_bytes())?;

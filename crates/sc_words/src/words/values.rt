@@ -1,8 +1,7 @@
 //! The values of options.
-ghost use Rattle.std.specs.Prelude.{◌≡◌, false, List as Items};
+ghost use Rattle.std.specs.Prelude.{◌≡◌};
 ghost use Rattle.clap.specs.Matches.{found_of, first_value};
-ghost use Rattle.sc_words.specs.Words.{Piece, values_of, in_form, number, is_lpfs, times_of, option_text, is_flag};
-ghost use Rattle.sc_words.specs.WordsCommands.{AreOf};
+ghost use Rattle.sc_words.specs.Words.{values_by, in_form, number, is_lpfs, times_of, option_text};
 
 use crate::words::table::OptionName;
 use crate::words::times::{read_number, read_order, read_times};
@@ -38,9 +37,7 @@ fn read_size(matches: &ArgMatches, option: OptionName) -> Option<Option<u32>>
 {
     match matches.get_str(option.text()) {
         None => Some(None),
-        Some(text) => Some(Some(
-            read_number(text.as_bytes(), 1, MOST_REGIONS)? as u32
-        )),
+        Some(text) => Some(Some(read_number(text.as_bytes(), 1, MOST_REGIONS)? as u32)),
     }
 }
 
@@ -66,7 +63,7 @@ fn read_durations(matches: &ArgMatches) -> Option<Option<Times>>
 
 /// The values of the options, if all are in their forms.
 pub(crate) fn read_values(matches: &ArgMatches) -> Option<Values>
-    ensures { result ≡ values_found (found_of matches.now) }
+    ensures { result ≡ values_by (λ o. first_value (found_of matches.now) (option_text o)) }
 {
     Some(Values {
         limit: read_limit(matches)?,

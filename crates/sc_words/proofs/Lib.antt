@@ -1,0 +1,2 @@
+pub mod WordsRow
+pub mod WordsWalk
