@@ -5,15 +5,17 @@ use Rattle.std.specs.List.{before_first, after_first, list_any}
 use Rattle.std.specs.Str.{bytes_eq, chars, IsUtf8}
 use Rattle.std.proofs.lemmas.Bool.{cases_lt}
 use Rattle.std.proofs.lemmas.Bool.Decides.{nat_tests}
-use Rattle.clap.specs.Faults.{flags_fault, repeat_fault, settle_fault, turn_fault, use_fault, walk_fault, word_fault}
+use Rattle.clap.specs.Faults.{bundle_fault, flags_fault, long_fault, repeat_fault, settle_fault, turn_fault, use_fault, walk_fault, word_fault}
 use Rattle.clap.specs.Kinds.{Kinds, or_else}
 use Rattle.clap.specs.Lexer.{long_of, short_of, usize_max}
 use Rattle.clap.specs.Simple.{Shape as CommandShape, new_shape}
-use Rattle.clap.specs.Walk.{Held, Row, Rule, Text, Waiting, Walk, arg_by_id, arg_by_index, arg_by_long, arg_by_short, has_row, idle, is_pending, settled, walked, Step, after_step, positional_held, pushed, to_positional, used, word_met}
+use Rattle.clap.specs.Walk.{Held, Row, Rule, Text, Waiting, Walk, arg_by_id, arg_by_index, arg_by_long, arg_by_short, has_row, idle, is_pending, settled, walked, Step, after_step, done, long_met, positional_held, pushed, reacted, to_positional, used, word_met}
+use Rattle.clap.specs.declared.error.kind.ErrorKind.TheVariants.{InvalidValue}
+use Rattle.clap.specs.Walk.{nothing_held, walk_from}
 use Rattle.clap.specs.Walk.{option as waiting_for, value as value_step}
 use Rattle.sc_words.specs.Words.{Piece, Shape, option, operand, ends, named, plain, refused, is_flag, is_repeated, is_equals, onto, with_flag, with_option, with_value, at_end, operands_of, option_named, option_text, shape_of, stands}
 use Rattle.sc_words.specs.declared.words.table.OptionName.{OptionName}
-use Rattle.sc_words.proofs.WordsRow.{named_arg, option_arg, operand_name, operand_arg, operands_in, row_args, found_named, found_short, found_place, no_place, named_so, found_option, found_operand, row_with, shown, rows_from, name_of, text_of, count_of, rows_more, count_more, option_row, operand_row, row_used}
+use Rattle.sc_words.proofs.WordsRow.{named_arg, option_arg, operand_name, operand_arg, operands_in, row_args, found_named, found_short, found_place, no_place, named_so, found_option, found_operand, row_with, shown, rows_from, name_of, text_of, count_of, rows_more, count_more, option_row, operand_row, row_used, text_itself}
 
 -- ---- kinds
 
@@ -292,3 +294,233 @@ module _ (options : List OptionName) (two : Bool) (name : Text) where
       placed h before waiting ok all s n count bound true word words refl refl (Some (map operand words))
       (λ lt. all_operands words (holding all n (operand word)) all (operand word ∷ []) true (all ++ operand word ∷ []) (holding_settles all n (operand word) lt count) (n + 1)
       (count_more all (operand word) ∙ ap (λ k. k + 1) count) (omega arith))
+
+  -- an option that waits for its value
+  abbrev pub wanting : List Piece → OptionName → Held
+  wanting pieces o = record { rows = rows_from 0 pieces; pending = Some (option_text o, []); skip = 0 }
+
+  -- ---- an option that is used at once
+
+  when_true : (b x y : Bool) → (b ≡ true → x ≡ y) → (b && x) ≡ (b && y)
+  when_true true x y e = e refl
+  when_true false x y e = refl
+
+  both_true : (a b : Bool) → (a && b) ≡ true → (a ≡ true) × (b ≡ true)
+  both_true true b e = (refl, e)
+  both_true false b e = absurd (true≢false (sym e))
+
+  -- the use of an option with a value, or of a flag
+  record Uses (o : OptionName) (text : Text) (v : Option Text) : Type 0 where
+    values : List Text
+    met : (k : Held) → long_met rules (Some (option_arg o)) v k ≡ (reacted rules (option_arg o) values k, done)
+    fault : (k : Held) → long_fault rules false (Some (option_arg o)) v k ≡ or_else (settle_fault rules false k) (use_fault false (option_arg o) values (settled rules k).rows)
+    once : (rows : List Row) → none (use_fault false (option_arg o) values rows) ≡ not (has_row (option_text o) rows)
+    row : (rows : List Row) → has_row (option_text o) rows ≡ false → used (option_arg o) values rows ≡ rows ++ row_with (option_text o) (shown o text) ∷ []
+
+  flag_uses : (o : OptionName) → is_flag o ≡ true → Uses o [] None
+  flag_uses o flag = record {
+    values = [];
+    met = λ k. rw flag refl;
+    fault = λ k. rw flag refl;
+    once = λ rows. rw flag (flag_fault (option_text o) rows);
+    row = λ rows fresh. rw flag (row_used (option_text o) (codes "true") rows fresh);
+  }
+
+  value_uses : (o : OptionName) (text : Text) → is_flag o ≡ false → Uses o text (Some text)
+  value_uses o text flag = record {
+    values = text ∷ [];
+    met = λ k. rw flag refl;
+    fault = λ k. rw flag refl;
+    once = λ rows. rw flag (value_fault (option_text o) text rows);
+    row = λ rows fresh. rw flag (row_used (option_text o) text rows fresh);
+  }
+
+  module _ (h : Held) (before waiting : List Piece) (ok : Bool) (all : List Piece) (s : Settles h before waiting ok all) (n : ℕ) (word : Text) (words : List Text)
+      (not_two : bytes_eq word (45 ∷ 45 ∷ []) ≡ false) where
+    module _ (label : Text) (v : Option Text) (long : long_of word ≡ Some (label, v)) (o : OptionName) (named_by : arg_by_long rules label ≡ Some (option_arg o)) where
+      module _ (text : Text) (uses : Uses o text v) where
+        reacted_turn : none (turn_fault row_shape [] (between h idle n false) word) ≡ (ok && not (stands o all))
+        reacted_turn =
+            let fresh : ok ≡ true → not (has_row (option_text o) (settled rules h).rows) ≡ not (stands o all) =
+            λ e. ap (λ rows. not (has_row (option_text o) rows)) (s.rows e) ∙ ap not (option_row all 0 o) in
+            rw (not_two, long, named_by, uses.met h, uses.fault h)
+            (none_both (or_else (settle_fault rules false h) (use_fault false (option_arg o) uses.values (settled rules h).rows)) [] ∙ and_true _
+            ∙ none_both (settle_fault rules false h) (use_fault false (option_arg o) uses.values (settled rules h).rows) ∙ ap₂ (λ a b. a && b) s.fault (uses.once (settled rules h).rows)
+            ∙ when_true ok _ _ fresh)
+
+        reacted_held : (ok && not (stands o all)) ≡ true → reacted rules (option_arg o) uses.values h ≡ bare (all ++ option o text ∷ [])
+        reacted_held e =
+            let parts = both_true ok _ e in
+            let rows : used (option_arg o) uses.values (settled rules h).rows ≡ rows_from 0 (all ++ option o text ∷ []) =
+            ap (used (option_arg o) uses.values) (s.rows parts.0) ∙ uses.row (rows_from 0 all) (option_row all 0 o ∙ not_true _ parts.1)
+            ∙ sym (rows_more all (option o text) 0 (0 + count_of all) refl) in
+            λ i. record { rows = rows i; pending = None; skip = s.skip i }
+
+        reacted_moves : (ok && not (stands o all)) ≡ true → walked rules [] (between h idle n false) word ≡ between (bare (all ++ option o text ∷ [])) idle n false
+        unfolding walked
+        reacted_moves e = rw (not_two, long, named_by, uses.met h) (ap (λ k. between k idle n false) (reacted_held e))
+
+        reacted_says : (rest : Option (List Piece)) → Says (all ++ option o text ∷ []) [] n (between (bare (all ++ option o text ∷ [])) idle n false) words rest
+            → Says before waiting n (between h idle n false) (word ∷ words) (onto (option o text) rest)
+        reacted_says rest says = turns before waiting (all ++ option o text ∷ []) [] n n (between h idle n false) (between (bare (all ++ option o text ∷ [])) idle n false) word words
+            (ok && not (stands o all)) (λ ps. option o text ∷ ps) rest reacted_turn reacted_moves
+            (λ ps. merges _ (ok && not (stands o all)) (singles (all ++ option o text ∷ []) ps) _ _ (s.model (option o text ∷ ps) ∙ sym (both_assoc ok _ _)) refl)
+            (λ ps. s.list (option o text ∷ ps) ∙ sym (append_assoc all (option o text ∷ []) ps)) says
+
+      -- a value option with no `=`
+      module _ (flag : is_flag o ≡ false) (none_given : v ≡ None) where
+        waits_turn : none (turn_fault row_shape [] (between h idle n false) word) ≡ ok
+        waits_turn = rw (not_two, long, named_by, none_given, flag) (none_both (settle_fault rules false h) [] ∙ and_true _ ∙ s.fault)
+
+        waits_moves : ok ≡ true → walked rules [] (between h idle n false) word ≡ between (wanting all o) (waiting_for (option_text o)) n false
+        unfolding walked
+        waits_moves e =
+            let there : record (settled rules h) { pending = Some (option_text o, []) } ≡ wanting all o = λ i. record { rows = s.rows e i; pending = Some (option_text o, []); skip = s.skip i } in
+            rw (not_two, long, named_by, none_given, flag) (ap (λ k. between k (waiting_for (option_text o)) n false) there)
+
+        waits_says : (rest : Option (List Piece)) → Says all [] n (between (wanting all o) (waiting_for (option_text o)) n false) words rest
+            → Says before waiting n (between h idle n false) (word ∷ words) (option_map (λ ps. ps) rest)
+        waits_says rest says = turns before waiting all [] n n (between h idle n false) (between (wanting all o) (waiting_for (option_text o)) n false) word words ok (λ ps. ps) rest
+            waits_turn waits_moves (λ ps. merges _ ok (singles all ps) _ _ (s.model ps) refl) s.list says
+
+  -- ---- the word after an option that wants a value
+
+  long_stops : (id : Text) (flag : Bool) (v : Option Text) (k : Held) → settle_fault rules false k ≡ InvalidValue ∷ [] → none (long_fault rules false (Some (named_arg id flag)) v k) ≡ false
+  long_stops id true None k e = rw e refl
+  long_stops id true (Some x) k e = refl
+  long_stops id false None k e = rw e refl
+  long_stops id false (Some x) k e = rw e refl
+
+  bundle_stops : (d : ℕ) (rest : Text) (h : Held) → h.skip ≡ 0 → (slice_get (chars (d ∷ rest)) 0 ≡ None → ⊥) → none (bundle_fault rules false (d ∷ rest) h) ≡ false
+  unfolding flags_fault
+  bundle_stops d rest h skip some = go (slice_get (chars (d ∷ rest)) 0) refl
+    where
+      go : (o : Option ℕ) → slice_get (chars (d ∷ rest)) 0 ≡ o → none (bundle_fault rules false (d ∷ rest) h) ≡ false
+      go None e = absurd (some e)
+      go (Some x) e = rw (e, skip, found_short options two x) refl
+
+  none_first : (a b : Kinds) → none a ≡ false → none (or_else a b) ≡ false
+  none_first a b e = none_both a b ∙ ap (λ x. x && none b) e
+
+  module _ (before : List Piece) (o : OptionName) (n : ℕ) (in_row : option_named options (option_text o) ≡ Some o) (flag : is_flag o ≡ false) where
+    abbrev asking : Bool → Walk
+    asking t = between (wanting before o) (waiting_for (option_text o)) n t
+
+    unsettled : settle_fault rules false (wanting before o) ≡ InvalidValue ∷ []
+    unsettled = rw (found_option options two (option_text o) o in_row, flag) refl
+
+    asking_last : (t : Bool) → passes (asking t) [] ≡ false
+    unfolding walk_fault
+    asking_last t = ap none unsettled
+
+    asking_trails : (words : List Text) → passes (asking true) words ≡ false
+    asking_trails [] = asking_last true
+    asking_trails (word ∷ words) = stops before [] n (asking true) word words (elim (cases_lt n (operands_in two)) [
+      | inl lt ↦ rw (found_place options two n lt)
+          (ap none (if_never (is_pending (operand_arg n) (Some (option_text o, []))) [] (settle_fault rules false (wanting before o)) ∙ unsettled))
+      | inr le ↦ rw (no_place options two n le) refl
+    ])
+
+    asking_moves : (word : Text) → bytes_eq word (45 ∷ 45 ∷ []) ≡ true → walked rules [] (asking false) word ≡ asking true
+    unfolding walked
+    asking_moves word sorted = rw sorted refl
+
+    asking_held : (word : Text) → Sorted word plain → walked rules [] (asking false) word ≡ between (holding before n (option o word)) idle n false
+    unfolding walked
+    asking_held word sorted = rw (sorted.0, sorted.1, sorted.2, found_option options two (option_text o) o in_row, flag, text_itself (option_text o)) refl
+
+    asking_word : (word : Text) (words : List Text) (shape : Shape) → Sorted word shape → (rest : Option (List Piece))
+        → Says before (option o word ∷ []) n (between (holding before n (option o word)) idle n false) words rest
+        → Says before [] n (asking false) (word ∷ words) (taken shape o word rest)
+    asking_word word words ends sorted rest says = (step (asking false) (asking true) word words true (rw sorted refl) (λ e. asking_moves word sorted)).0 ∙ asking_trails words
+    asking_word word words (named label v) sorted rest says = stops before [] n (asking false) word words (go (option_named options label) (found_named options two label))
+      where
+        go : (found : Option OptionName) → arg_by_long rules label ≡ option_map option_arg found → none (turn_fault row_shape [] (asking false) word) ≡ false
+        go None e = rw (sorted.0, sorted.1, e) refl
+        go (Some p) e = rw (sorted.0, sorted.1, e) (none_first _ _ (long_stops (option_text p) (is_flag p) v (wanting before o) unsettled))
+    asking_word word words refused sorted rest says =
+        let bad = sorted.2 in
+        stops before [] n (asking false) word words (rw (sorted.0, sorted.1, bad.2) (none_first _ _ (bundle_stops bad.0 bad.1 (wanting before o) refl bad.3)))
+    asking_word word words plain sorted rest says = turns before [] before (option o word ∷ []) n n (asking false) (between (holding before n (option o word)) idle n false) word words true
+        (λ ps. option o word ∷ ps) rest (rw (sorted.0, sorted.1, sorted.2) refl) (λ e. asking_held word sorted) (λ ps. refl) (λ ps. refl) says
+
+  -- ---- all the words
+
+  record Both (words : List Text) : Type 0 where
+    from_idle : (h : Held) (before waiting : List Piece) (ok : Bool) (all : List Piece) → Settles h before waiting ok all → (n : ℕ) → count_of all ≡ n → n ≤ operands_in two
+        → Says before waiting n (between h idle n false) words (strict options words None)
+    from_asking : (before : List Piece) (o : OptionName) (n : ℕ) → option_named options (option_text o) ≡ Some o → is_flag o ≡ false → count_of before ≡ n → n ≤ operands_in two
+        → Says before [] n (between (wanting before o) (waiting_for (option_text o)) n false) words (strict options words (Some o))
+
+  option_same : (rest : Option (List Piece)) → option_map (λ ps. ps) rest ≡ rest
+  option_same None = refl
+  option_same (Some ps) = refl
+
+  module _ (h : Held) (before waiting : List Piece) (ok : Bool) (all : List Piece) (s : Settles h before waiting ok all) (n : ℕ) (count : count_of all ≡ n) (bound : n ≤ operands_in two)
+      (word : Text) (words : List Text) (both : Both words) where
+    -- an option of the row
+    option_says : (label : Text) (v : Option Text) → bytes_eq word (45 ∷ 45 ∷ []) ≡ false → long_of word ≡ Some (label, v) → (o : OptionName) → option_named options label ≡ Some o
+        → (flag : Bool) → is_flag o ≡ flag
+        → Says before waiting n (between h idle n false) (word ∷ words) (if flag then with_flag o v (strict options words None) else with_value o v (strict options words))
+    option_says label None not_two long o found true flag =
+        let named_by = found_named options two label ∙ ap (option_map option_arg) found in
+        reacted_says h before waiting ok all s n word words not_two label None long o named_by [] (flag_uses o flag) (strict options words None)
+        (both.from_idle (bare (all ++ option o [] ∷ [])) (all ++ option o [] ∷ []) [] true (all ++ option o [] ∷ []) (bare_settles (all ++ option o [] ∷ [])) n
+        (count_more all (option o []) ∙ omega (arith, count)) bound)
+    option_says label (Some x) not_two long o found true flag =
+        let named_by = found_named options two label ∙ ap (option_map option_arg) found in
+        stops before waiting n (between h idle n false) word words (rw (not_two, long, named_by, flag) refl)
+    option_says label (Some x) not_two long o found false flag =
+        let named_by = found_named options two label ∙ ap (option_map option_arg) found in
+        reacted_says h before waiting ok all s n word words not_two label (Some x) long o named_by x (value_uses o x flag) (strict options words None)
+        (both.from_idle (bare (all ++ option o x ∷ [])) (all ++ option o x ∷ []) [] true (all ++ option o x ∷ []) (bare_settles (all ++ option o x ∷ [])) n
+        (count_more all (option o x) ∙ omega (arith, count)) bound)
+    option_says label None not_two long o found false flag =
+        let named_by = found_named options two label ∙ ap (option_map option_arg) found in
+        let in_row : option_named options (option_text o) ≡ Some o = ap (option_named options) (named_so options label o found) ∙ found in
+        subst (Says before waiting n (between h idle n false) (word ∷ words)) (option_same (strict options words (Some o)))
+        (waits_says h before waiting ok all s n word words not_two label None long o named_by flag refl (strict options words (Some o)) (both.from_asking all o n in_row flag count bound))
+
+    named_says : (label : Text) (v : Option Text) → bytes_eq word (45 ∷ 45 ∷ []) ≡ false → long_of word ≡ Some (label, v) → (found : Option OptionName) → option_named options label ≡ found
+        → Says before waiting n (between h idle n false) (word ∷ words) (with_option found v (strict options words))
+    named_says label v not_two long None e =
+        stops before waiting n (between h idle n false) word words (rw (not_two, long, found_named options two label ∙ ap (option_map option_arg) e) refl)
+    named_says label v not_two long (Some o) e = option_says label v not_two long o e (is_flag o) refl
+
+    ends_moves : bytes_eq word (45 ∷ 45 ∷ []) ≡ true → walked rules [] (between h idle n false) word ≡ between h idle n true
+    unfolding walked
+    ends_moves e = rw e refl
+
+    idle_says : (shape : Shape) → Sorted word shape → Says before waiting n (between h idle n false) (word ∷ words) (strict_word options shape word words (strict options words))
+    idle_says ends sorted = turns before waiting before waiting n n (between h idle n false) (between h idle n true) word words true (λ ps. ps) (Some (map operand words))
+        (rw sorted refl) (λ e. ends_moves sorted) (λ ps. refl) (λ ps. refl) (all_operands words h before waiting ok all s n count bound)
+    idle_says (named label v) sorted = named_says label v sorted.0 sorted.1 (option_named options label) refl
+    idle_says plain sorted = placed h before waiting ok all s n count bound false word words (rw (sorted.0, sorted.1, sorted.2) refl) (rw (sorted.0, sorted.1, sorted.2) refl) (strict options words None)
+        (λ lt. both.from_idle (holding all n (operand word)) all (operand word ∷ []) true (all ++ operand word ∷ []) (holding_settles all n (operand word) lt count) (n + 1)
+        (count_more all (operand word) ∙ omega (arith, count)) (omega arith))
+    idle_says refused sorted =
+        let bad = sorted.2 in
+        stops before waiting n (between h idle n false) word words (rw (sorted.0, sorted.1, bad.2) (none_first _ _ (bundle_stops bad.0 bad.1 h s.skip bad.3)))
+
+  -- each word is sorted
+  abbrev pub AllSorted : List Text → Type 0
+  AllSorted [] = Unit {0}
+  AllSorted (word ∷ words) = Sorted word (shape_of word) × AllSorted words
+
+  both_say : (words : List Text) → AllSorted words → Both words
+  both_say [] sorted = record {
+    from_idle = λ h before waiting ok all s n count bound. at_last h before waiting ok all s n count bound;
+    from_asking = λ before o n in_row flag count bound. asking_last before o n in_row flag false;
+  }
+  both_say (word ∷ words) sorted =
+      let more = both_say words sorted.1 in
+      record {
+        from_idle = λ h before waiting ok all s n count bound. idle_says h before waiting ok all s n count bound word words more (shape_of word) sorted.0;
+        from_asking = λ before o n in_row flag count bound. asking_word before o n in_row flag word words (shape_of word) sorted.0 (strict options words None)
+            (more.from_idle (holding before n (option o word)) before (option o word ∷ []) (not (stands o before)) (before ++ option o word ∷ []) (holding_settles before n (option o word) (in_row, flag) count) n
+            (count_more before (option o word) ∙ omega (arith, count)) bound);
+      }
+
+  -- THE WALK over the words of a row
+  pub words_say : (words : List Text) → AllSorted words → Says [] [] 0 (walk_from nothing_held) words (strict options words None)
+  words_say words sorted = (both_say words sorted).from_idle (bare []) [] [] true [] (bare_settles []) 0 refl (omega arith)
