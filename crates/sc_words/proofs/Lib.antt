@@ -1,2 +1,4 @@
 pub mod WordsRow
 pub mod WordsWalk
+pub mod WordsStrict
+pub mod WordsFound

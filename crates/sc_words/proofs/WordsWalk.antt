@@ -31,7 +31,7 @@ both_assoc : (a b c : Bool) → ((a && b) && c) ≡ (a && (b && c))
 both_assoc true b c = refl
 both_assoc false b c = refl
 
-and_true : (a : Bool) → (a && true) ≡ a
+pub and_true : (a : Bool) → (a && true) ≡ a
 and_true true = refl
 and_true false = refl
 
@@ -73,6 +73,11 @@ Sorted word (named text value) = (bytes_eq word (45 ∷ 45 ∷ []) ≡ false) ×
 Sorted word plain = (bytes_eq word (45 ∷ 45 ∷ []) ≡ false) × (long_of word ≡ None) × (short_of word ≡ None)
 Sorted word refused = (bytes_eq word (45 ∷ 45 ∷ []) ≡ false) × (long_of word ≡ None)
     × ((d : ℕ) × (rest : Text) × (short_of word ≡ Some (d ∷ rest)) × (slice_get (chars (d ∷ rest)) 0 ≡ None → ⊥))
+
+-- each word is sorted
+abbrev pub AllSorted : List Text → Type 0
+AllSorted [] = Unit {0}
+AllSorted (word ∷ words) = Sorted word (shape_of word) × AllSorted words
 
 -- ---- no option twice, from the pieces before
 
@@ -501,11 +506,6 @@ module _ (options : List OptionName) (two : Bool) (name : Text) where
     idle_says refused sorted =
         let bad = sorted.2 in
         stops before waiting n (between h idle n false) word words (rw (sorted.0, sorted.1, bad.2) (none_first _ _ (bundle_stops bad.0 bad.1 h s.skip bad.3)))
-
-  -- each word is sorted
-  abbrev pub AllSorted : List Text → Type 0
-  AllSorted [] = Unit {0}
-  AllSorted (word ∷ words) = Sorted word (shape_of word) × AllSorted words
 
   both_say : (words : List Text) → AllSorted words → Both words
   both_say [] sorted = record {
