@@ -74,11 +74,14 @@ fn cancel_request(matches: &ArgMatches, file: Text) -> Request
 fn schedule_request(matches: &ArgMatches, values: Values, file: Text) -> Option<Request>
     ensures { (mode : Modes) (pieces : List Piece) → AreOf mode (found_of matches.now) pieces → asked_of Mode.Schedule pieces values file ≡ result }
 {
+    let (Some(k), Some(d)) = (values.regions, values.width) else {
+        return None;
+    };
     Some(Request::Schedule {
         file,
         choice: choice_of(matches),
-        k: values.regions?,
-        d: values.width?,
+        k,
+        d,
         lpfs: values.lpfs.unwrap_or(false),
         times: values.times,
     })
@@ -88,11 +91,14 @@ fn schedule_request(matches: &ArgMatches, values: Values, file: Text) -> Option<
 fn coarse_request(matches: &ArgMatches, values: &Values, file: Text) -> Option<Request>
     ensures { (mode : Modes) (pieces : List Piece) → AreOf mode (found_of matches.now) pieces → asked_of Mode.Coarse pieces values.now file ≡ result }
 {
+    let (Some(k), Some(d)) = (values.regions, values.width) else {
+        return None;
+    };
     Some(Request::Coarse {
         file,
         choice: choice_of(matches),
-        k: values.regions?,
-        d: values.width?,
+        k,
+        d,
         lpfs: values.lpfs.unwrap_or(false),
     })
 }
@@ -113,8 +119,10 @@ fn check_request(alloc: Global, matches: &ArgMatches, flat: Text) -> Result<Requ
 fn drill_request(operand: &Text) -> Option<Request>
     ensures { (pieces : List Piece) (values : Given) → asked_of Mode.Drill pieces values operand.now ≡ result }
 {
-    let n = read_number(operand.as_bytes(), 1, LARGEST_DRILL)? as u32;
-    Some(Request::Drill { n })
+    let Some(n) = read_number(operand.as_bytes(), 1, LARGEST_DRILL) else {
+        return None;
+    };
+    Some(Request::Drill { n: n as u32 })
 }
 
 /// What a mode asks for with its first operand, its flags and its values.

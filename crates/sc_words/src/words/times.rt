@@ -18,10 +18,13 @@ pub(crate) fn read_number(text: &[u8], low: u64, high: u64) -> Option<u64>
     if text.len() > MOST_DIGITS {
         return None;
     }
-    match read_u64(text) {
-        Some(number) if low <= number && number <= high => Some(number),
-        _ => None,
+    let Some(number) = read_u64(text) else {
+        return None;
+    };
+    if number < low || number > high {
+        return None;
     }
+    Some(number)
 }
 
 /// Whether the order in the text is `lpfs`, and None where it is neither that nor `rcp`.
@@ -43,9 +46,15 @@ fn read_entry(entry: &str) -> Option<(GateName, u32)>
     ensures low { IfSome result (λ r. 1 ≤ r.1) }
     ensures high { IfSome result (λ r. r.1 ≤ 1000000) }
 {
-    let (gate, duration) = entry.split_once('=')?;
-    let gate = GateName::from_text(gate.as_bytes())?;
-    let duration = read_number(duration.as_bytes(), 1, LONGEST)?;
+    let Some((gate, duration)) = entry.split_once('=') else {
+        return None;
+    };
+    let Some(gate) = GateName::from_text(gate.as_bytes()) else {
+        return None;
+    };
+    let Some(duration) = read_number(duration.as_bytes(), 1, LONGEST) else {
+        return None;
+    };
     Some((gate, duration as u32))
 }
 
@@ -56,7 +65,9 @@ pub(crate) fn read_times(text: &str) -> Option<Times>
     let mut times = Times::ones();
     let mut least = 0;
     for entry in text.split(',') {
-        let (gate, duration) = read_entry(entry)?;
+        let Some((gate, duration)) = read_entry(entry) else {
+            return None;
+        };
         if gate.place() < least {
             return None;
         }
