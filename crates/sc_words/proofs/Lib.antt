@@ -2,3 +2,5 @@ pub mod WordsRow
 pub mod WordsWalk
 pub mod WordsStrict
 pub mod WordsFound
+pub mod WordsValues
+pub mod WordsRules

@@ -137,27 +137,26 @@ fn ask_with(
     ensures usage { IsErrOf result WordsFault.Usage → (pieces : List Piece) → AreOf mode (found_of matches.now) pieces → asked_of mode pieces values file ≡ None }
 {
     let choice = choice_of(matches);
-    let request = match mode {
-        Mode::Hier => Some(Request::Hier { file, choice }),
-        Mode::Flat => Some(flat_request(matches, &values, file)),
-        Mode::Count => Some(Request::Count {
+    match mode {
+        Mode::Hier => Ok(Request::Hier { file, choice }),
+        Mode::Flat => Ok(flat_request(matches, &values, file)),
+        Mode::Count => Ok(Request::Count {
             file,
             choice,
             times: values.times,
         }),
-        Mode::Schedule => schedule_request(matches, values, file),
-        Mode::Expand => Some(Request::Expand {
+        Mode::Schedule => schedule_request(matches, values, file).ok_or(WordsFault::Usage),
+        Mode::Expand => Ok(Request::Expand {
             file,
             limit: values.limit.unwrap_or(DEFAULT_LIMIT),
         }),
-        Mode::Check => return check_request(alloc, matches, file),
-        Mode::Drill => drill_request(&file),
-        Mode::Coarse => coarse_request(matches, &values, file),
-        Mode::Open => Some(Request::ToOpen { file, choice }),
-        Mode::Reopen => Some(Request::FromOpen { file }),
-        Mode::Cancel => Some(cancel_request(matches, file)),
-    };
-    request.ok_or(WordsFault::Usage)
+        Mode::Check => check_request(alloc, matches, file),
+        Mode::Drill => drill_request(&file).ok_or(WordsFault::Usage),
+        Mode::Coarse => coarse_request(matches, &values, file).ok_or(WordsFault::Usage),
+        Mode::Open => Ok(Request::ToOpen { file, choice }),
+        Mode::Reopen => Ok(Request::FromOpen { file }),
+        Mode::Cancel => Ok(cancel_request(matches, file)),
+    }
 }
 
 /// What the options and operands of a mode ask for. `Usage` says that they ask for nothing: an operand or a size is
