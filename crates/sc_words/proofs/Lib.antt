@@ -4,3 +4,4 @@ pub mod WordsStrict
 pub mod WordsFound
 pub mod WordsValues
 pub mod WordsRules
+pub mod WordsAsked

@@ -1,10 +1,9 @@
 -- Commands with arguments one by one, and the words of a command line as clap takes them.
-use Rattle.std.proofs.Common.{◌≡◌, ◌∙◌, ◌<◌, ◌≤◌, ◌+◌, ◌++◌, ℕ, Bool, true, false, zero, suc, refl, sym, ap, arith, List, [], ◌∷◌, map, take, length, get_or, append_assoc, add-one, inl, inr, Global}
+use Rattle.std.proofs.Common.{◌≡◌, ◌∙◌, ◌<◌, ◌≤◌, ◌+◌, ◌++◌, ℕ, Bool, true, false, zero, suc, refl, sym, ap, arith, List, [], ◌∷◌, map, take, length, get_or, append_assoc, add-one, inl, inr}
 use Rattle.std.specs.Borrow.{Bor}
-use Rattle.std.specs.Rc.{rc_str_bytes}
-use Rattle.std.specs.declared.wrapped.RcStr.{RcStr}
 use Rattle.std.proofs.Math.Seq.{take-suc}
 use Rattle.std.proofs.lemmas.List.{map-append}
+use Rattle.std.specs.Str.{IsUtf8}
 use Rattle.std.proofs.lemmas.Str.{IsUtf8-had}
 use Rattle.clap.specs.Kinds.{IsAmong, Kinds}
 use Rattle.clap.specs.Simple.{App, with_rule}
@@ -27,9 +26,9 @@ first_names f (suc zero) p q = refl
 first_names f (suc (suc n)) p q = refl
 
 -- words are text
-pub text_sorted : (words : List (RcStr Global)) → AllSorted (map rc_str_bytes words)
-text_sorted [] = tt
-text_sorted (word ∷ words) = (sorted_word (rc_str_bytes word) (IsUtf8-had (rc_str_bytes word) word.text.value.ok), text_sorted words)
+pub text_sorted : {X : Type 0} (words : List X) (bytes : X → List ℕ) → ((word : X) → ∥ IsUtf8 (bytes word) ∥₁) → AllSorted (map bytes words)
+text_sorted [] bytes text = tt
+text_sorted (word ∷ words) bytes text = (sorted_word (bytes word) (IsUtf8-had (bytes word) (text word)), text_sorted words bytes text)
 
 pub some_kind : (k : ErrorKind) (kinds : Kinds) → IsAmong k kinds → none kinds ≡ false
 some_kind k [] among = absurd among

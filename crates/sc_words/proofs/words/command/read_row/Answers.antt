@@ -12,7 +12,7 @@ pub returns-in-Ok-clause-found : goal.returns-in-Ok-clause-found
 returns-in-Ok-clause-found c =
     let words = map rc_str_bytes c.args.words.now in
     let is = c.in_ok-command.ensures in
-    found_words c.args.mode words _ (text_sorted c.args.words.now) ((c.in-Ok.ensures.matches (ap is_simple is ∙ simple_is c.args.mode)).0 ∙ ap (λ a. matches_of a words) is)
+    found_words c.args.mode words _ (text_sorted c.args.words.now rc_str_bytes (λ w. w.text.value.ok)) ((c.in-Ok.ensures.matches (ap is_simple is ∙ simple_is c.args.mode)).0 ∙ ap (λ a. matches_of a words) is)
     (sym (ap (λ a. fault_of a words) is) ∙ c.in-Ok.ensures.kinds (ap is_simple_and_free is ∙ free_is c.args.mode))
 
 pub returns : goal.returns
@@ -23,4 +23,4 @@ returns c =
       | inl memory ↦ absurd (c.in_default.not-OutOfMemory (c.kind.ensures ∙ memory))
       | inr among ↦ sym (ap (λ a. none (fault_of a words)) is) ∙ some_kind _ _ among
     ] in
-    record { found = tt; usage = λ _. refused_words c.args.mode words (text_sorted c.args.words.now) some }
+    record { found = tt; usage = λ _. refused_words c.args.mode words (text_sorted c.args.words.now rc_str_bytes (λ w. w.text.value.ok)) some }
