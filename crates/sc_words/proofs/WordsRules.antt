@@ -20,10 +20,11 @@ rules_more f start now next xs i d lt so_far step =
     step ∙ ap (λ a. with_rule a (f (get_or xs i d))) so_far ∙ ap (λ (rs : List Rule). record start { top = record start.top { rules = rs } }) (append_assoc start.top.rules (map f (take i xs)) (f (get_or xs i d) ∷ []))
     ∙ ap (with_rules start) (sym (ap (map f) (ap (λ k. take k xs) (add-one i) ∙ take-suc xs i d lt) ∙ map-append f (take i xs) (get_or xs i d ∷ [])))
 
-pub first_names : (f : List ℕ → Rule) (count : ℕ) (p q : Bor (List ℕ)) → map (λ b. f b.now) (take count (p ∷ q ∷ [])) ≡ map f (take count (p.now ∷ q.now ∷ []))
-first_names f zero p q = refl
-first_names f (suc zero) p q = refl
-first_names f (suc (suc n)) p q = refl
+pub first_names : (f : List ℕ → Rule) (count : ℕ) (p q : Bor (List ℕ)) → count ≤ 2 → map (λ b. f b.now) (take count (p ∷ q ∷ [])) ≡ map f (take count (p.now ∷ q.now ∷ []))
+first_names f zero p q le = refl
+first_names f (suc zero) p q le = refl
+first_names f (suc (suc zero)) p q le = refl
+first_names f (suc (suc (suc n))) p q le = absurd (omega arith)
 
 -- words are text
 pub text_sorted : {X : Type 0} (words : List X) (bytes : X → List ℕ) → ((word : X) → ∥ IsUtf8 (bytes word) ∥₁) → AllSorted (map bytes words)
