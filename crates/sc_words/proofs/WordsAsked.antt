@@ -14,9 +14,7 @@ use Rattle.sc_words.specs.declared.words.table.Mode.TheVariants as mode
 use Rattle.sc_words.specs.declared.words.table.OptionName.{OptionName}
 use Rattle.sc_words.specs.declared.words.table.OptionName.TheVariants as name
 use Rattle.sc_words.specs.declared.words.values.Values.{Values}
-
-none≢some : {X : Type 0} (x : X) → None ≡ Some x → ⊥
-none≢some x e = true≢false (sym (ap is_some e))
+use Rattle.sc_words.proofs.WordsRow.{map_inverts, none≢some}
 
 -- a request or none, as a result
 pub asked_ok : (A : List Piece → Type 0) (spec : List Piece → Option Request) (o : Option Request) (r : Result Request WordsFault) → r ≡ ok_or o Usage → ((ps : List Piece) → A ps → spec ps ≡ o)
@@ -53,14 +51,10 @@ two_at (y ∷ z ∷ zs) x e = omega arith
 same_number : (a b : ℕ) → a ≤ b → b ≤ a → (a == b) ≡ true
 same_number a b le ge = grind (arith, nat_tests)
 
-map_some : {X Y : Type 0} (f : X → Y) (o : Option X) (y : Y) → option_map f o ≡ Some y → (x : X) × (o ≡ Some x)
-map_some f None y e = absurd (none≢some y e)
-map_some f (Some x) y e = (x, refl)
-
 -- what asks for something has all its operands
 enough : (m : Mode) (ps : List Piece) (v : Values) (first : List ℕ) (r : Request) → slice_get (operands_of ps) 0 ≡ Some first → asked_of m ps v first ≡ Some r → operand_count m ≤ length (operands_of ps)
 enough mode.Check ps v first r e a =
-    let second = map_some _ (slice_get (operands_of ps) 1) r a in
+    let second = map_inverts _ (slice_get (operands_of ps) 1) r a in
     two_at (operands_of ps) second.0 second.1
 enough mode.Hier ps v first r e a = one_at (operands_of ps) first e
 enough mode.Flat ps v first r e a = one_at (operands_of ps) first e

@@ -21,8 +21,8 @@ use Rattle.sc_words.specs.declared.request.Request.{Request}
 use Rattle.sc_words.specs.declared.words.table.Mode.{Mode}
 use Rattle.sc_words.specs.declared.words.table.Mode.TheVariants as mode
 use Rattle.sc_words.specs.declared.words.table.OptionName.{OptionName}
-use Rattle.sc_words.proofs.WordsRow.{apart, apart_too, count_of, named_arg, operand_arg, operand_name, operands_in, option_arg, row_added, row_args, row_with, rows_from, same_flag, shown}
-use Rattle.sc_words.proofs.WordsStrict.{none≢some, single_is, strict_fits, strict_gives, then_inverts, values_taken}
+use Rattle.sc_words.proofs.WordsRow.{if_same, both_true, none≢some, apart, apart_too, count_of, named_arg, operand_arg, operand_name, operands_in, option_arg, row_added, row_args, row_with, rows_from, same_flag, shown}
+use Rattle.sc_words.proofs.WordsStrict.{single_is, strict_fits, strict_gives, then_inverts, values_taken}
 use Rattle.sc_words.proofs.WordsWalk.{AllSorted, Says, and_true, none, none_both, passes, row_shape, rows_at_end, singles, strict, words_say}
 
 -- ---- the command of a mode
@@ -94,10 +94,6 @@ free_is mode.Reopen = refl
 free_is mode.Cancel = refl
 
 -- ---- defaults
-
-if_either : {X : Type 0} (b : Bool) (x : X) → (if b then x else x) ≡ x
-if_either true x = refl
-if_either false x = refl
 
 if_or : {X : Type 0} (b : Bool) (x y : X) → (if b || true then x else y) ≡ x
 if_or true x y = refl
@@ -185,7 +181,7 @@ data Defaults (id : Text) (flag : Bool) (rows after : List Row) : Type 0 where
   more : flag ≡ true → after ≡ rows ++ default_row id ∷ [] → Defaults id flag rows after
 
 default_of : (id : Text) (flag : Bool) (rows : List Row) → Defaults id flag rows (with_default rows (named_arg id flag))
-default_of id false rows = same (if_either (has_row id rows) rows)
+default_of id false rows = same (if_same (has_row id rows) rows)
 default_of id true rows = go (has_row id rows) refl
   where
     go : (b : Bool) → has_row id rows ≡ b → Defaults id true rows (if b then rows else with_values id AsWritten DefaultValue (codes "false" ∷ []) rows)
@@ -193,7 +189,7 @@ default_of id true rows = go (has_row id rows) refl
     go false e = more refl (row_added id (Rattle.clap.specs.Walk.more_values DefaultValue (codes "false" ∷ [])) (default_row id ∷ []) rows e)
 
 operand_default : (n : ℕ) (rows : List Row) → with_default rows (operand_arg n) ≡ rows
-operand_default n rows = if_either (has_row (operand_name n) rows) rows
+operand_default n rows = if_same (has_row (operand_name n) rows) rows
 
 operand_defaults : (two : Bool) (rows : List Row) → fold with_default rows (row_args [] two) ≡ rows
 operand_defaults false rows = operand_default 0 rows
@@ -297,10 +293,6 @@ second_at (operand word ∷ ps) = second_next ps 0
 
 -- ---- what was found
 
-both_so : (a b : Bool) → (a && b) ≡ true → (a ≡ true) × (b ≡ true)
-both_so true b e = (refl, e)
-both_so false b e = absurd (true≢false (sym e))
-
 flag_apart : (o p : OptionName) → is_flag p ≡ false → is_flag o ≡ true → bytes_eq (option_text o) (option_text p) ≡ false
 flag_apart o p value flag = go (bytes_eq (option_text o) (option_text p)) refl
   where
@@ -343,7 +335,7 @@ found_words m words f sorted rows fault =
         → passes (options_of m) (has_two m) (mode_text m) (walk_from nothing_held) words ≡ true → AreOfWords m words f
     go None e says pass = absurd (true≢false (sym pass ∙ says))
     go (Some ps) e says pass =
-        let parts = both_so (singles [] ps) (nat_le (0 + count_of ps) (operands_in (has_two m))) (sym says.0 ∙ pass) in
+        let parts = both_true (singles [] ps) (nat_le (0 + count_of ps) (operands_in (has_two m))) (sym says.0 ∙ pass) in
         let many : 0 + count_of ps ≤ operand_count m = few_is m (0 + count_of ps) parts.1 in
         record {
           pieces = ps;
@@ -380,7 +372,7 @@ refused_words m words sorted fault =
       where
         never : (r : Request) → fits m ps ≡ true → asked m ps ≡ Some r → ⊥
         never r f a =
-            let parts = both_so (is_single ps) (length (operands_of ps) == operand_count m) f in
+            let parts = both_true (is_single ps) (length (operands_of ps) == operand_count m) f in
             let values = then_inverts (λ v. option_and_then (asked_of m ps v) (slice_get (operands_of ps) 0)) (values_by (λ o. value_of o ps)) r a in
             let strictly = strict_fits (options_of m) words None tt ps e parts.0 (values_taken (λ o. value_of o ps) values.0 values.1) in
             let says = subst (Says (options_of m) (has_two m) (mode_text m) [] [] 0 (walk_from nothing_held) words) strictly (words_say (options_of m) (has_two m) (mode_text m) words sorted) in

@@ -17,6 +17,35 @@ use Rattle.sc_words.specs.WordsCommands.{named_rule, operand_names, option_rule}
 use Rattle.sc_words.specs.declared.words.table.OptionName.{OptionName}
 use Rattle.sc_words.specs.declared.words.table.OptionName.TheVariants as name
 
+-- ---- tests and options
+
+pub none≢some : {X : Type 0} (x : X) → None ≡ Some x → ⊥
+none≢some x e = true≢false (sym (ap is_some e))
+
+pub or_false : (b : Bool) → (b || false) ≡ b
+or_false true = refl
+or_false false = refl
+
+pub and_false : (a b : Bool) → b ≡ false → (a && b) ≡ false
+and_false true b e = e
+and_false false b e = refl
+
+pub both_true : (a b : Bool) → (a && b) ≡ true → (a ≡ true) × (b ≡ true)
+both_true true b e = (refl, e)
+both_true false b e = absurd (true≢false (sym e))
+
+pub not_true : (b : Bool) → not b ≡ true → b ≡ false
+not_true true e = absurd (true≢false (sym e))
+not_true false e = refl
+
+pub if_same : {X : Type 0} (b : Bool) (x : X) → (if b then x else x) ≡ x
+if_same true x = refl
+if_same false x = refl
+
+pub map_inverts : {X Y : Type 0} (f : X → Y) (o : Option X) (y : Y) → option_map f o ≡ Some y → (x : X) × (o ≡ Some x)
+map_inverts f None y e = absurd (none≢some y e)
+map_inverts f (Some x) y e = (x, refl)
+
 -- ---- the arguments
 
 -- an argument with a long name, as it is built
@@ -119,10 +148,6 @@ same_flag o p e = flag_text o ∙ ap (λ t. list_any (bytes_eq t) flag_texts) {x
 
 -- ---- what is found
 
-or_false : (b : Bool) → (b || false) ≡ b
-or_false true = refl
-or_false false = refl
-
 -- the option of the row that has the name has its argument
 pub found_named : (options : List OptionName) (two : Bool) (name : Text) → arg_by_long (row_args options two) name ≡ option_map option_arg (option_named options name)
 found_named [] false name = refl
@@ -161,12 +186,9 @@ no_place options true n le = at_index options true (n + 1) ∙ rw (far 1 (n + 1)
 some_same : {X : Type 0} (x y : X) → Some x ≡ Some y → x ≡ y
 some_same x y e = ap (λ o. unwrap_or o x) e
 
-none_some : {X : Type 0} (x : X) → None ≡ Some x → ⊥
-none_some x e = true≢false (sym (ap is_some e))
-
 -- the option that a name finds has that name
 pub named_so : (options : List OptionName) (name : Text) (o : OptionName) → option_named options name ≡ Some o → option_text o ≡ name
-named_so [] name o e = absurd (none_some o e)
+named_so [] name o e = absurd (none≢some o e)
 named_so (p ∷ options) name o e = go (bytes_eq (option_text p) name) refl (named_so options name o) e
   where
     go : (b : Bool) → bytes_eq (option_text p) name ≡ b → (option_named options name ≡ Some o → option_text o ≡ name) → cond b (Some p) (option_named options name) ≡ Some o
@@ -175,7 +197,7 @@ named_so (p ∷ options) name o e = go (bytes_eq (option_text p) name) refl (nam
     go false t more f = more f
 
 pub found_option : (options : List OptionName) (two : Bool) (id : Text) (o : OptionName) → option_named options id ≡ Some o → arg_by_id (row_args options two) id ≡ Some (option_arg o)
-found_option [] two id o e = absurd (none_some o e)
+found_option [] two id o e = absurd (none≢some o e)
 found_option (p ∷ options) two id o e = go (bytes_eq (option_text p) id) (found_option options two id o) e
   where
     go : (b : Bool) → (option_named options id ≡ Some o → arg_by_id (row_args options two) id ≡ Some (option_arg o)) → cond b (Some p) (option_named options id) ≡ Some o → cond b (Some (option_arg p)) (arg_by_id (row_args options two) id) ≡ Some (option_arg o)

@@ -14,7 +14,7 @@ use Rattle.sc_words.specs.Words.{Piece, Shape, option, operand, ends, named, pla
 use Rattle.sc_words.specs.declared.words.table.OptionName.{OptionName}
 use Rattle.sc_words.specs.declared.words.table.OptionName.TheVariants as name
 use Rattle.sc_words.specs.declared.words.values.Values.{Values}
-use Rattle.sc_words.proofs.WordsRow.{same_text, text_itself}
+use Rattle.sc_words.proofs.WordsRow.{and_false, both_true, if_same, map_inverts, none≢some, not_true, same_text, text_itself}
 use Rattle.sc_words.proofs.WordsWalk.{Sorted, singles, strict, strict_next, strict_word, taken}
 
 abbrev Text : Type 0
@@ -164,9 +164,6 @@ single_is ps = singles_are [] ps ∙ ap (λ b. not b && is_single ps) (none_shar
 abbrev pub Gives : Option (List Piece) → Option (List Piece) → Type 0
 Gives r s = (ps : List Piece) → r ≡ Some ps → s ≡ Some ps
 
-pub none≢some : {X : Type 0} (x : X) → None ≡ Some x → ⊥
-none≢some x e = true≢false (sym (ap is_some e))
-
 onto_inverts : (p : Piece) (r : Option (List Piece)) (ps : List Piece) → onto p r ≡ Some ps → (qs : List Piece) × (r ≡ Some qs) × (ps ≡ p ∷ qs)
 onto_inverts p None ps e = absurd (none≢some ps e)
 onto_inverts p (Some qs) ps e = (qs, refl, sym (ap (λ o. unwrap_or o []) e))
@@ -210,23 +207,15 @@ abbrev pub IsTaken : Option Text → Type 0
 IsTaken None = Unit {0}
 IsTaken (Some text) = shape_of text ≡ plain
 
-no_and : (a b : Bool) → b ≡ false → (a && b) ≡ false
-no_and true b e = e
-no_and false b e = refl
-
 -- the form lets no text through that begins with a hyphen
 abbrev RefusesHyphens : {X : Type 0} → (Text → Option X) → Type 0
 RefusesHyphens {X} form = (rest : Text) → form (45 ∷ rest) ≡ None
 
 number_refuses : (low high : ℕ) → RefusesHyphens (number low high)
-number_refuses low high rest = rw (no_and (nat_le 1 (length (45 ∷ rest))) _ (no_and (nat_le (length (45 ∷ rest)) 20) _ refl)) refl
+number_refuses low high rest = rw (and_false (nat_le 1 (length (45 ∷ rest))) _ (and_false (nat_le (length (45 ∷ rest)) 20) _ refl)) refl
 
 order_refuses : RefusesHyphens is_lpfs
 order_refuses rest = refl
-
-if_same : {X : Type 0} (b : Bool) (x : X) → (if b then x else x) ≡ x
-if_same true x = refl
-if_same false x = refl
 
 hyphen_first : (rest : Text) → before_first is_equals (45 ∷ rest) ≡ 45 ∷ before_first is_equals rest
 hyphen_first rest =
@@ -266,10 +255,6 @@ pub then_inverts : {X Y : Type 0} (f : X → Option Y) (o : Option X) (y : Y) �
 then_inverts f None y e = absurd (none≢some y e)
 then_inverts f (Some x) y e = (x, refl, e)
 
-map_inverts : {X Y : Type 0} (f : X → Y) (o : Option X) (y : Y) → option_map f o ≡ Some y → (x : X) × (o ≡ Some x)
-map_inverts f None y e = absurd (none≢some y e)
-map_inverts f (Some x) y e = (x, refl)
-
 by_name : (value : OptionName → Option Text) → IsTaken (value name.Limit) → IsTaken (value name.Regions) → IsTaken (value name.Width) → IsTaken (value name.Order) → IsTaken (value name.Times)
     → (o : OptionName) → is_flag o ≡ false → IsTaken (value o)
 by_name value limit regions width order times name.Limit f = limit
@@ -301,14 +286,6 @@ values_taken value v e =
 abbrev AllTaken : List Piece → Type 0
 AllTaken ps = (o : OptionName) → is_flag o ≡ false → IsTaken (value_of o ps)
 
-and_parts : (a b : Bool) → (a && b) ≡ true → (a ≡ true) × (b ≡ true)
-and_parts true b e = (refl, e)
-and_parts false b e = absurd (true≢false (sym e))
-
-not_so : (b : Bool) → not b ≡ true → b ≡ false
-not_so true e = absurd (true≢false (sym e))
-not_so false e = refl
-
 value_by_text : (o p : OptionName) (ps : List Piece) → option_text o ≡ option_text p → value_of o ps ≡ value_of p ps
 value_by_text o p [] e = refl
 value_by_text o p (option q value ∷ ps) e = ap₂ or_value (ap (λ t. if bytes_eq (option_text q) t then Some value else None) e) (value_by_text o p ps e)
@@ -323,7 +300,7 @@ fewer_taken (operand word) ps single all = all
 fewer_taken (option q value) ps single all = λ o flag. go o (bytes_eq (option_text q) (option_text o)) refl (all o flag)
   where
     go : (o : OptionName) (b : Bool) → bytes_eq (option_text q) (option_text o) ≡ b → IsTaken (or_value (if b then Some value else None) (value_of o ps)) → IsTaken (value_of o ps)
-    go o true e t = subst IsTaken (sym (value_by_text o q ps (sym (same_text (option_text q) (option_text o) e)) ∙ no_value (value_of q ps) (not_so (stands q ps) (and_parts (not (stands q ps)) (is_single ps) single).0))) tt
+    go o true e t = subst IsTaken (sym (value_by_text o q ps (sym (same_text (option_text q) (option_text o) e)) ∙ no_value (value_of q ps) (not_true (stands q ps) (both_true (not (stands q ps)) (is_single ps) single).0))) tt
     go o false e t = t
 
 first_taken : (o : OptionName) (value : Text) (ps : List Piece) → is_flag o ≡ false → AllTaken (option o value ∷ ps) → shape_of value ≡ plain
@@ -341,7 +318,7 @@ onto_fits : (p : Piece) (r s : Option (List Piece)) → Fits r s → Fits (onto 
 onto_fits p r s fits ps e single all =
     let parts = onto_inverts p r ps e in
     let one = subst (λ qs. is_single qs ≡ true) parts.2 single in
-    ap (onto p) (fits parts.0 parts.1 (and_parts (not (is_repeated p parts.0)) (is_single parts.0) one).1 (fewer_taken p parts.0 one (subst AllTaken parts.2 all))) ∙ ap Some (sym parts.2)
+    ap (onto p) (fits parts.0 parts.1 (both_true (not (is_repeated p parts.0)) (is_single parts.0) one).1 (fewer_taken p parts.0 one (subst AllTaken parts.2 all))) ∙ ap Some (sym parts.2)
 
 option_fits : (o : Option OptionName) (v : Option Text) (r s : Option OptionName → Option (List Piece)) → ((w : Option OptionName) → IsValued w → Fits (r w) (s w)) → Fits (with_option o v r) (with_option o v s)
 option_fits None v r s fits = λ ps e. absurd (none≢some ps e)

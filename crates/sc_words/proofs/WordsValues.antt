@@ -10,6 +10,7 @@ use Rattle.std.proofs.lemmas.List.{at_drop_more}
 use Rattle.sc_base.specs.GateNames.{gate_named, place_of}
 use Rattle.sc_base.specs.declared.names.GateName.{GateName}
 use Rattle.sc_base.proofs.DecimalLemmas.{AllDigits-from_test, test-from_AllDigits}
+use Rattle.sc_words.proofs.WordsRow.{both_true}
 use Rattle.sc_words.specs.Words.{is_equals, number, times_entry, times_from, with_entry}
 
 -- ---- numbers
@@ -26,10 +27,6 @@ number_some low high n text short read least most =
     rw (le_true 1 (length text) (omega (arith, read.0.0.0)), le_true (length text) 20 short, test-from_AllDigits text read.0.0.1, le_true low (digits_value 10 text) (omega arith), le_true (digits_value 10 text) high (omega arith))
     (ap Some is)
 
-both_of : (a b : Bool) → (a && b) ≡ true → (a ≡ true) × (b ≡ true)
-both_of true b e = (refl, e)
-both_of false b e = absurd (true≢false (sym e))
-
 pub number_none : (low high : ℕ) (text : List ℕ) → (length text ≤ 20 → IsNumeral 10 text → low ≤ digits_value 10 text → digits_value 10 text ≤ high → ⊥) → None ≡ number low high text
 number_none low high text never = go (nat_le 1 (length text) && (nat_le (length text) 20 && (list_all is_ascii_digit text && (nat_le low (digits_value 10 text) && nat_le (digits_value 10 text) high)))) refl
   where
@@ -37,10 +34,10 @@ number_none low high text never = go (nat_le 1 (length text) && (nat_le (length 
         → None ≡ (if b then Some (digits_value 10 text) else None)
     go false e = refl
     go true e =
-        let a = both_of (nat_le 1 (length text)) _ e in
-        let b = both_of (nat_le (length text) 20) _ a.1 in
-        let c = both_of (list_all is_ascii_digit text) _ b.1 in
-        let d = both_of (nat_le low (digits_value 10 text)) (nat_le (digits_value 10 text) high) c.1 in
+        let a = both_true (nat_le 1 (length text)) _ e in
+        let b = both_true (nat_le (length text) 20) _ a.1 in
+        let c = both_true (list_all is_ascii_digit text) _ b.1 in
+        let d = both_true (nat_le low (digits_value 10 text)) (nat_le (digits_value 10 text) high) c.1 in
         let some : 1 ≤ length text = le_from 1 (length text) a.0 in
         absurd (never (le_from (length text) 20 b.0) (omega arith, AllDigits-from_test text c.0) (le_from low (digits_value 10 text) d.0) (le_from (digits_value 10 text) high d.1))
 
@@ -78,10 +75,10 @@ number_low low high n text e = go (nat_le 1 (length text) && (nat_le (length tex
     go false e s = absurd (true≢false (ap Rattle.std.specs.Option.is_some s))
     go true e s =
         let is : n ≡ digits_value 10 text = ap (λ o. Rattle.std.specs.Prelude.unwrap_or o n) s in
-        let a = both_of (nat_le 1 (length text)) _ e in
-        let b = both_of (nat_le (length text) 20) _ a.1 in
-        let c = both_of (list_all is_ascii_digit text) _ b.1 in
-        let d = both_of (nat_le low (digits_value 10 text)) (nat_le (digits_value 10 text) high) c.1 in
+        let a = both_true (nat_le 1 (length text)) _ e in
+        let b = both_true (nat_le (length text) 20) _ a.1 in
+        let c = both_true (list_all is_ascii_digit text) _ b.1 in
+        let d = both_true (nat_le low (digits_value 10 text)) (nat_le (digits_value 10 text) high) c.1 in
         let least = le_from low (digits_value 10 text) d.0 in
         let most = le_from (digits_value 10 text) high d.1 in
         (omega arith, omega arith)

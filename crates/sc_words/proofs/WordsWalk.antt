@@ -15,7 +15,7 @@ use Rattle.clap.specs.Walk.{nothing_held, walk_from}
 use Rattle.clap.specs.Walk.{option as waiting_for, value as value_step}
 use Rattle.sc_words.specs.Words.{Piece, Shape, option, operand, ends, named, plain, refused, is_flag, is_repeated, is_equals, onto, with_flag, with_option, with_value, at_end, operands_of, option_named, option_text, shape_of, stands}
 use Rattle.sc_words.specs.declared.words.table.OptionName.{OptionName}
-use Rattle.sc_words.proofs.WordsRow.{named_arg, option_arg, operand_name, operand_arg, operands_in, row_args, found_named, found_short, found_place, no_place, named_so, found_option, found_operand, row_with, shown, rows_from, name_of, text_of, count_of, rows_more, count_more, option_row, operand_row, row_used, text_itself}
+use Rattle.sc_words.proofs.WordsRow.{and_false, both_true, not_true, or_false, named_arg, option_arg, operand_name, operand_arg, operands_in, row_args, found_named, found_short, found_place, no_place, named_so, found_option, found_operand, row_with, shown, rows_from, name_of, text_of, count_of, rows_more, count_more, option_row, operand_row, row_used, text_itself}
 
 -- ---- kinds
 
@@ -120,10 +120,6 @@ module _ (options : List OptionName) (two : Bool) (name : Text) where
   Says before waiting n w words (Some rest) = (passes w words ≡ (singles before (waiting ++ rest) && nat_le (n + count_of rest) (operands_in two)))
       × (passes w words ≡ true → rows_at_end w words ≡ rows_from 0 (before ++ (waiting ++ rest)))
 
-  false_and : (a b : Bool) → (a && b) ≡ true → a ≡ true
-  false_and true b e = refl
-  false_and false b e = absurd (true≢false (sym e))
-
   -- one more word
   turns : (before waiting before' waiting' : List Piece) (n n' : ℕ) (w after : Walk) (word : Text) (words : List Text) (b : Bool) (f : List Piece → List Piece) (rest : Option (List Piece))
       → none (turn_fault row_shape [] w word) ≡ b → (b ≡ true → walked rules [] w word ≡ after)
@@ -187,10 +183,6 @@ module _ (options : List OptionName) (two : Bool) (name : Text) where
   operand_fault : (n : ℕ) (text : Text) (rows : List Row) → none (use_fault false (operand_arg n) (text ∷ []) rows) ≡ not (has_row (operand_name n) rows)
   operand_fault n text rows = none_both (repeat_fault false (operand_name n) rows) [] ∙ and_true _ ∙ none_repeat (operand_name n) rows
 
-  not_true : (b : Bool) → not b ≡ true → b ≡ false
-  not_true true e = absurd (true≢false (sym e))
-  not_true false e = refl
-
   within : operands_in two ≤ 2
   within = go two
     where
@@ -229,14 +221,6 @@ module _ (options : List OptionName) (two : Bool) (name : Text) where
   if_never : {X : Type 0} (b : Bool) (x y : X) → (if b && false then x else y) ≡ y
   if_never true x y = refl
   if_never false x y = refl
-
-  or_false : (b : Bool) → (b || false) ≡ b
-  or_false true = refl
-  or_false false = refl
-
-  and_false : (a b : Bool) → b ≡ false → (a && b) ≡ false
-  and_false true b e = e
-  and_false false b e = refl
 
   too_many : (n c : ℕ) → operands_in two ≤ n → nat_le (n + suc c) (operands_in two) ≡ false
   too_many n c le = grind (arith, nat_tests)
@@ -309,10 +293,6 @@ module _ (options : List OptionName) (two : Bool) (name : Text) where
   when_true : (b x y : Bool) → (b ≡ true → x ≡ y) → (b && x) ≡ (b && y)
   when_true true x y e = e refl
   when_true false x y e = refl
-
-  both_true : (a b : Bool) → (a && b) ≡ true → (a ≡ true) × (b ≡ true)
-  both_true true b e = (refl, e)
-  both_true false b e = absurd (true≢false (sym e))
 
   -- the use of an option with a value, or of a flag
   record Uses (o : OptionName) (text : Text) (v : Option Text) : Type 0 where
