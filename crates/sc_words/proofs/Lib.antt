@@ -5,3 +5,4 @@ pub mod WordsFound
 pub mod WordsValues
 pub mod WordsRules
 pub mod WordsAsked
+pub mod WordsExamples

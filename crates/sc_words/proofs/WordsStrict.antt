@@ -14,7 +14,7 @@ use Rattle.sc_words.specs.Words.{Piece, Shape, option, operand, ends, named, pla
 use Rattle.sc_words.specs.declared.words.table.OptionName.{OptionName}
 use Rattle.sc_words.specs.declared.words.table.OptionName.TheVariants as name
 use Rattle.sc_words.specs.declared.words.values.Values.{Values}
-use Rattle.sc_words.proofs.WordsRow.{and_false, both_true, if_same, map_inverts, none≢some, not_true, same_text, text_itself}
+use Rattle.sc_words.proofs.WordsRow.{and_false, both_true, if_same, map_inverts, none≢some, not_true, or_false, same_text, text_itself}
 use Rattle.sc_words.proofs.WordsWalk.{Sorted, singles, strict, strict_next, strict_word, taken}
 
 abbrev Text : Type 0
@@ -89,11 +89,7 @@ stands_first o p ps = go (value_in o p)
     go (Some v) = refl
 
 stands_last : (o : OptionName) (before : List Piece) (p : Piece) → stands o (before ++ p ∷ []) ≡ (stands o before || is_of o p)
-stands_last o [] p = stands_first o p [] ∙ go (is_of o p)
-  where
-    go : (b : Bool) → (b || false) ≡ b
-    go true = refl
-    go false = refl
+stands_last o [] p = stands_first o p [] ∙ or_false (is_of o p)
 stands_last o (q ∷ before) p =
     stands_first o q (before ++ p ∷ []) ∙ ap (λ b. is_of o q || b) (stands_last o before p) ∙ sym (or_assoc (is_of o q) (stands o before) (is_of o p)) ∙ ap (λ b. b || is_of o p) (sym (stands_first o q before))
 
