@@ -2,7 +2,7 @@
 use Rattle.std.proofs.Common.{◌≡◌, true, false, refl, List, [], ◌∷◌, ℕ, Some, codes, is_some, is_none}
 use Rattle.std.specs.List.{list_all}
 use Rattle.sc_words.specs.Words.{request}
-use Rattle.sc_words.specs.declared.choice.Choice.TheVariants.{Keep, Replace}
+use Rattle.sc_meaning.specs.declared.choice.Choice.TheVariants.{Keep, Replace}
 use Rattle.sc_words.specs.declared.request.Request.TheVariants as asks
 
 abbrev refused : List (List (List ℕ))

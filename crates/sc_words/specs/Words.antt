@@ -6,8 +6,8 @@ use Rattle.std.specs.Str.{bytes_eq}
 use Rattle.std.specs.Str.Parse.{digits_value}
 use Rattle.sc_base.specs.GateNames.{gate_named, place_of}
 use Rattle.sc_base.specs.declared.names.GateName.{GateName}
-use Rattle.sc_words.specs.declared.choice.Choice.{Choice}
-use Rattle.sc_words.specs.declared.choice.Choice.TheVariants.{Keep, Replace}
+use Rattle.sc_meaning.specs.declared.choice.Choice.{Choice}
+use Rattle.sc_meaning.specs.declared.choice.Choice.TheVariants.{Keep, Replace}
 use Rattle.sc_words.specs.declared.request.Request.{Request}
 use Rattle.sc_words.specs.declared.request.Request.TheVariants as asks
 use Rattle.sc_words.specs.declared.words.table.Mode.{Mode}

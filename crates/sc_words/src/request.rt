@@ -1,9 +1,9 @@
 //! What the words ask for.
 ghost use Rattle.std.specs.Prelude.{◌≡◌};
 
-use crate::choice::Choice;
 use sc_base::{Memory, Text};
 use sc_gate::Times;
+use sc_meaning::Choice;
 
 /// What the program is asked to do. Each file is named as the words name it. `choice` says whether Toffoli and
 /// Fredkin gates stay. Where `times` is None, every gate has the duration 1.

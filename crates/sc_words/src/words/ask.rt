@@ -6,7 +6,6 @@ ghost use Rattle.sc_words.specs.WordsCommands.{AreOf, asked_by};
 ghost use Rattle.sc_words.specs.declared.words.table.Mode.{Mode as Modes};
 ghost use Rattle.sc_words.specs.declared.words.values.Values.{Values as Given};
 
-use crate::choice::Choice;
 use crate::request::{Request, WordsFault};
 use crate::words::command::OPERANDS;
 use crate::words::table::{Mode, OptionName};
@@ -14,6 +13,7 @@ use crate::words::times::read_number;
 use crate::words::values::{Values, read_values};
 use clap::ArgMatches;
 use sc_base::Text;
+use sc_meaning::Choice;
 use std::alloc::Global;
 
 /// The most gates of a flat text, where the words name no limit.
