@@ -13,6 +13,7 @@ pub mod Entering
 pub mod EnteringTyped
 pub mod Executing
 pub mod Finding
+pub mod Folding
 pub mod FunctionLaws
 pub mod GateLaws
 pub mod GateTyping
@@ -20,6 +21,7 @@ pub mod Going
 pub mod Holding
 pub mod Indexing
 pub mod Keeping
+pub mod KeptBodies
 pub mod KeyTyping
 pub mod Lengths
 pub mod LoopParts
@@ -36,3 +38,4 @@ pub mod StatementParts
 pub mod Steps
 pub mod TodoTyping
 pub mod TypedParts
+pub mod WrittenDecks

@@ -1,10 +1,14 @@
 //! What one part of a body does, up to a call.
-ghost use Rattle.std.specs.Prelude.{◌≡◌, ◌≢◌, ◌+◌, ◌*◌, ◌<◌, ◌≤◌, List, [], ◌∷◌, ◌++◌, map, option_map, length, None, Some, Ok, Err, OnOk, IfOk, IfErr};
+ghost use Rattle.std.specs.Prelude.{◌≡◌, ◌≢◌, ◌+◌, ◌*◌, ◌<◌, ◌≤◌, List, [], ◌∷◌, ◌++◌, map, option_map, length, None, Some, Ok, Err, OnOk, IfOk, IfErr, IfSome};
 ghost use Rattle.std.specs.Option.{option_copied};
 ghost use Rattle.sc_syntax.specs.Alike.{pure_expr, pure_act, pure_stmt_list};
 ghost use Rattle.sc_value.specs.Numbers.{is_true};
 ghost use Rattle.sc_types.specs.Accepted.{IsAccepted};
+ghost use Rattle.sc_deck.specs.Decks.{CallsFit};
+ghost use Rattle.sc_deck.specs.Modules.{Module};
 ghost use Rattle.sc_elab.specs.Beginnings.{Begun};
+ghost use Rattle.sc_elab.specs.Folding.{IsFolded, HasRoom, HasRoomFor};
+ghost use Rattle.sc_elab.specs.Typings.{IsTypedBody, IsTypedCall};
 ghost use Rattle.sc_elab.specs.Fine.{taken_by_source, IsFineAct, IsFineCall, AreFineStmts, IfFine, IsFinePart, AreFineParts, FitsRequest};
 ghost use Rattle.sc_elab.specs.Frames.{view, Runs, IsRefused, Advanced, StopsAt};
 ghost use Rattle.sc_elab.specs.Pending.{doing, looped, leaves, if_on, for_on, block_on, to_do, after_round};
@@ -408,11 +412,17 @@ pub(crate) fn advance<'a>(
     next: Todo<'a>,
 ) -> Result<Option<Request>, ElabFault>
     requires accepted { IsAccepted given.checked.now }
-    requires fine { AreFineParts (taken_by_source given.checked.now) (todo.old.items ++ next ∷ []) }
+    requires typed { IsTypedBody given.checked.now frame.old (todo.old.items ++ next ∷ []) }
+    requires turns { HasRoom frame.old }
+    requires folded { IsFolded frame.old.body.items }
     requires nested { leaves (todo.old.items ++ next ∷ []) < length frame.old.numbers }
     ensures ok { IfOk result (λ r. Advanced (program_of given.entry.checked.now) given.entry.choice (λ c. doing (program_of given.entry.checked.now) c next.entry) frame.old todo.old.items r frame.new todo.new.items) }
-    ensures fits { IfOk result (FitsRequest (program_of given.entry.checked.now)) }
-    ensures fine { OnOk result (AreFineParts (taken_by_source given.entry.checked.now) todo.new.items) }
+    ensures typed { IfOk result (λ r. IsTypedBody given.entry.checked.now frame.new todo.new.items) }
+    ensures call { IfOk result (λ r. IfSome r (λ q. IsTypedCall given.entry.checked.now frame.new q)) }
+    ensures turns { IfOk result (λ r. HasRoomFor r frame.new) }
+    ensures folded { OnOk result (IsFolded frame.new.body.items) }
+    ensures calls { (deck : List Module) → CallsFit deck frame.old.body.items → OnOk result (CallsFit deck frame.new.body.items) }
+    ensures params { OnOk result (frame.new.body.params ≡ frame.old.body.params) }
     ensures err { IfErr result (λ f. f ≢ ElabFault.Memory → StopsAt given.entry.choice (λ c. doing (program_of given.entry.checked.now) c next.entry) frame.old f) }
     ensures nested { OnOk result (leaves todo.new.items < length frame.new.numbers) }
     ensures falls { OnOk result (6 * frame.new.steps + length todo.new.items ≤ 6 * frame.old.steps + length todo.old.items) }

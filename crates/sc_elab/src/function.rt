@@ -1,7 +1,10 @@
 //! The bodies of classical functions.
-ghost use Rattle.std.specs.Prelude.{◌≡◌, ◌≢◌, ◌≤◌, ◌++◌, flat_map, OnOk, IfOk, IfErr};
+ghost use Rattle.std.specs.Prelude.{◌≡◌, ◌≢◌, ◌≤◌, List, ◌++◌, flat_map, OnOk, IfOk, IfErr};
 ghost use Rattle.sc_deck.specs.Bodies.{wires_of, IsBody};
+ghost use Rattle.sc_deck.specs.Decks.{CallsFit};
 ghost use Rattle.sc_deck.specs.Keys.{params_of};
+ghost use Rattle.sc_deck.specs.Modules.{Module};
+ghost use Rattle.sc_elab.specs.Folding.{IsFolded};
 ghost use Rattle.sc_meaning.specs.declared.choice.Choice.TheVariants.{Replace};
 ghost use Rattle.sc_elab.specs.FunctionBodies.{HasWidths, HasRoom, function_on, chosen_items, MakesBody, MakesNone};
 ghost use Rattle.sc_meaning.specs.Programs.{function_of};
@@ -26,6 +29,8 @@ pub(crate) fn function_body(
     requires { HasWidths (function_of function.now) key.now }
     ensures ok { IfOk result (λ body. MakesBody choice (function_on name.now (function_of function.now) key.now) body) }
     ensures params { IfOk result (λ body. body.params ≡ params_of key.now) }
+    ensures folded { IfOk result (λ body. IsFolded body.items) }
+    ensures calls { IfOk result (λ body. (deck : List Module) → CallsFit deck body.items) }
     ensures err { IfErr result (λ f. f ≢ ElabFault.Memory → MakesNone choice (function_on name.now (function_of function.now) key.now) f) }
 {
     if function.wires() > u64::from(MOST_WIRES) {

@@ -1,22 +1,29 @@
 //! The frame in which the body of a module starts.
-ghost use Rattle.std.specs.Prelude.{◌≡◌, ◌≤◌, [], ◌∷◌, map, flat_map, replicate, OnOk, IfOk};
+ghost use Rattle.std.specs.Borrow.{Bor};
+ghost use Rattle.std.specs.Prelude.{◌≡◌, ◌≤◌, List, [], ◌∷◌, map, flat_map, replicate, Some, OnOk, IfOk};
 ghost use Rattle.sc_base.specs.NameMaps.{with_value};
 ghost use Rattle.sc_gate.specs.Numbers.{no_wires, both, with_more};
-ghost use Rattle.sc_syntax.specs.Alike.{pure_param};
+ghost use Rattle.sc_syntax.specs.Alike.{pure_param, pure_stmt_list};
 ghost use Rattle.sc_deck.specs.Keys.{arg_classes, param_classes, params_of, with_arg};
 ghost use Rattle.sc_deck.specs.Unfolding.{numbered};
 ghost use Rattle.sc_meaning.specs.Arguments.{wire_params};
 ghost use Rattle.sc_elab.specs.Frames.{view, spread};
 ghost use Rattle.sc_meaning.specs.Run.{start_state};
+ghost use Rattle.sc_meaning.specs.Definitions.{of_module, definition};
+ghost use Rattle.sc_meaning.specs.Programs.{program_of};
+ghost use Rattle.sc_types.specs.Accepted.{IsAccepted};
+ghost use Rattle.sc_elab.specs.Typings.{IsEntering, IsTypedBody};
 ghost use Rattle.sc_elab.specs.Spans.{span_wires};
 ghost use Rattle.sc_elab.specs.Starting.{numbers_of, with_args, with_param};
 
 use crate::callee::callee_numbers;
 use crate::frame::Frame;
 use crate::span::Span;
+use crate::todo::Todo;
 use sc_base::{Class, MOST_STEPS, MOST_WIRES, Memory, NameMap, Text};
 use sc_deck::{Arg, Body, Key};
-use sc_syntax::Param;
+use sc_syntax::{Module, Param, Stmt};
+use sc_types::Checked;
 use std::alloc::Global;
 
 /// How many wires of each class there are.
@@ -144,12 +151,22 @@ fn param_wires(alloc: Global, params: &[Param], args: &[Arg]) -> Result<NameMap<
 }
 
 /// The frame in which the body of a module starts.
-pub(crate) fn start_frame(alloc: Global, params: &[Param], key: &Key) -> Result<Frame, Memory>
-    ensures view { IfOk result (λ f. view f ≡ start_state (map pure_param params.now) key.now.args (numbered (param_classes key.now) no_wires) (params_of key.now)) }
+pub(crate) fn start_frame(
+    alloc: Global,
+    checked: &Checked,
+    called: &Module,
+    key: &Key,
+) -> Result<Frame, Memory>
+    requires accepted { IsAccepted checked.now }
+    requires entering { IsEntering checked.now key.now }
+    requires module { definition (program_of checked.now) key.now.name ≡ Some (of_module called.now.name (map pure_param called.now.params) (pure_stmt_list called.now.body)) }
+    ensures view { IfOk result (λ f. view f ≡ start_state (map pure_param called.now.params) key.now.args (numbered (param_classes key.now) no_wires) (params_of key.now)) }
     ensures items { IfOk result (λ f. f.body.items ≡ []) }
     ensures params { IfOk result (λ f. f.body.params ≡ params_of key.now) }
+    ensures typed { IfOk result (λ f. (stmts : Bor (List Stmt)) → stmts.now ≡ called.now.body → IsTypedBody checked.now f (Todo.Rest stmts ∷ [])) }
 {
     let args = key.args.as_slice();
+    let params = called.params.as_slice();
     let numbers = callee_numbers(alloc, params, args)?;
     let scope = param_wires(alloc, params, args)?;
     let counts = param_counts(args)?;
