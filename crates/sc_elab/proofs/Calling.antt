@@ -36,12 +36,11 @@ use Rattle.sc_meaning.specs.States.{State}
 use Rattle.sc_meaning.specs.Values.{◌>>=◌}
 use Rattle.sc_elab.specs.Typings.{IsEntering}
 use Rattle.sc_elab.proofs.Executing.{ran_leaving}
+use Rattle.sc_elab.proofs.FoldedDecks.{length_written, number_written, heights_written, written_put}
 use Rattle.sc_elab.proofs.KeptBodies.{entering_fits, held_of, number_pushed}
-use Rattle.sc_elab.proofs.WrittenDecks.{length_written, number_written, in_written, heights_written, written_push}
 use Rattle.sc_meaning.proofs.Fitting.{accepted_fits}
 use Rattle.sc_meaning.proofs.Grown.{entry_is}
 use Rattle.sc_meaning.proofs.Kept.{stands_for, kept_too_deep}
-use Rattle.sc_meaning.proofs.Known.{pushed}
 use Rattle.sc_meaning.proofs.Opening.{local_is, zero_is, few_is}
 use Rattle.sc_meaning.proofs.Ran.{many, ran_after, ran_next, ran_stop, ran_one, ran_done, ran_fault}
 
@@ -122,18 +121,17 @@ call_refused_inside choice program n key m m1 fault keys deck room refused wires
 pub call_made : (choice : Choice) (program : Program) (n : ℕ) (key : Key) (m m1 m2 m3 : Machine) (number : ℕ) (items : List Item) (own : Numbers)
     → m1.entered.keys ≡ with_key m.entered.keys key → m1.deck ≡ m.deck → length m1.entered.keys ≤ 65536
     → BodyRuns choice program n key m1 own items m2 → length m2.entered.keys ≤ 65536
-    → number_in_deck (written_modules m2.deck) key ≡ length (written_modules m2.deck) → m3.deck ≡ m2.deck ++ record { key = key; items = items } ∷ [] → number ≡ length m2.deck → m3.entered.keys ≡ m2.entered.keys
+    → number_in_deck m2.deck key ≡ length m2.deck → m3.deck ≡ m2.deck ++ record { key = key; items = items } ∷ [] → number ≡ length m2.deck → m3.entered.keys ≡ m2.entered.keys
     → IsCalled choice (local program (suc n) key) m number m3
 call_made choice program n key m m1 m2 m3 number items own keys deck room runs room2 new pushed_is is keys3 wires next opened =
     let back : Numbers × Made → Result (Numbers × Made) ElabFault = λ p. Ok (next, p.1) in
     let inner : Outcome Numbers = local_body program (local program n) key in
     let ret : Numbers → Outcome Numbers = λ own. Done (Return key ∷ []) own in
     let few : nat_lt 65536 (length (with_key m.entered.keys key)) ≡ false = ap (λ (ks : List Key). nat_lt 65536 (length ks)) (sym keys) ∙ few_is (length m1.entered.keys) room in
-    let old : List Module = written_modules m2.deck in
-    let entry : with_module old key (written items) ≡ pushed old key (written items) = entry_is old key (written items) new in
-    let deck3 : written_modules m3.deck ≡ with_module old key (written items) = ap written_modules pushed_is ∙ written_push m2.deck (record { key = key; items = items }) ∙ sym entry in
-    let last : number_in_deck (with_module old key (written items)) key ≡ number =
-    ap (λ (d : List Module). number_in_deck d key) entry ∙ number_pushed old key (written items) new ∙ length_written m2.deck ∙ sym is in
+    let deck3 : written_modules m3.deck ≡ with_module (written_modules m2.deck) key (written items) =
+    ap written_modules (pushed_is ∙ sym (entry_is m2.deck key items new)) ∙ written_put m2.deck key items in
+    let last : number_in_deck (with_module (written_modules m2.deck) key (written items)) key ≡ number =
+    ap (λ (d : List Module). number_in_deck d key) (sym deck3) ∙ number_written m3.deck key ∙ ap (λ (d : List Module). number_in_deck d key) pushed_is ∙ number_pushed m2.deck key items new ∙ sym is in
     ap (ran choice (kept opened m)) (local_is program n key wires next)
     ∙ ran_leaving choice (kept opened m) (λ own. next) (entered key wires inner)
     ∙ ap (λ (x : Result (Numbers × Made) ElabFault). x >>= back)
@@ -192,8 +190,11 @@ body_wide choice program n key m name f fault is none room wires opened =
 -- ---- a key that has returned
 
 module _ (t : TypedSource) (m : Machine) (keeps : KeepsBodies t m) (key : Key) (entering : IsEntering t key) (there : In m.deck key) where
+  there_written : In (written_modules m.deck) key
+  there_written = let n = number_written m.deck key in let l = length_written m.deck in omega arith
+
   held_here : Held (program_of t) (written_modules m.deck) m.entered.keys key (slice_index (heights_of (written_modules m.deck)) (number_in_deck (written_modules m.deck) key))
-  held_here = held_of (program_of t) (written_modules m.deck) m.entered.keys key keeps.held (in_written m.deck key there)
+  held_here = held_of (program_of t) (written_modules m.deck) m.entered.keys key keeps.held there_written
 
   -- its height in the deck is that in the deck written out
   same_height : slice_index (heights_of m.deck) (number_in_deck m.deck key) ≡ slice_index (heights_of (written_modules m.deck)) (number_in_deck (written_modules m.deck) key)
