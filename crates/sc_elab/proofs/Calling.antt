@@ -1,6 +1,10 @@
 -- Calls: a key that has returned; one that is entered, whose body is run and added to the deck.
-use Rattle.std.proofs.Common.{◌≡◌, ◌≢◌, ℕ, zero, suc, ◌+◌, ◌-◌, ◌<◌, ◌≤◌, Bool, true, false, cond, List, [], ◌∷◌, ◌++◌, length, Option, Some, None, Result, Ok, Err, refl, sym, ap, ◌∙◌, subst, arith}
-use Rattle.std.specs.Prelude.{nat_lt, slice_index}
+use Rattle.std.proofs.Common.{◌≡◌, ◌≢◌, ℕ, zero, suc, ◌+◌, ◌-◌, ◌<◌, ◌≤◌, Bool, true, false, cond, List, [], ◌∷◌, ◌++◌, length, Option, Some, None, Result, Ok, Err, refl, sym, ap, ◌∙◌, subst, arith, append-nil, append_assoc}
+use Rattle.std.specs.Prelude.{nat_lt, slice_index, map, All}
+use Rattle.std.specs.Option.{option_map}
+use Rattle.std.proofs.lemmas.List.{map-append}
+use Rattle.std.proofs.lemmas.List.Elements.{All-push}
+use Rattle.std.proofs.lemmas.Option.{slice_get-map}
 use Rattle.std.proofs.lemmas.Bool.Decides.{nat_tests}
 use Rattle.sc_gate.specs.declared.gate.Wire.{Wire}
 use Rattle.sc_gate.specs.Numbers.{Numbers, no_wires}
@@ -10,6 +14,7 @@ use Rattle.sc_deck.specs.declared.key.Key.{Key}
 use Rattle.sc_deck.specs.declared.item.Item.{Item}
 use Rattle.sc_deck.specs.declared.item.Item.TheVariants as item
 use Rattle.sc_deck.specs.Bodies.{Contents, wires_of}
+use Rattle.sc_deck.specs.Decks.{IsDeck, IsNewKey}
 use Rattle.sc_deck.specs.Events.{Event, Enter, Return}
 use Rattle.sc_deck.specs.Keys.{param_classes, params_of}
 use Rattle.sc_deck.specs.Modules.{Module, heights_of}
@@ -22,13 +27,13 @@ use Rattle.sc_meaning.specs.declared.fault.ElabFault.TheVariants.{TooDeep, TooMa
 use Rattle.sc_elab.specs.declared.frame.Frame.{Frame}
 use Rattle.sc_elab.specs.declared.machine.Machine.{Machine}
 use Rattle.sc_meaning.specs.Definitions.{Function, Definition, of_module, of_function, Program, definition}
-use Rattle.sc_elab.specs.Folding.{written, written_modules}
+use Rattle.sc_elab.specs.Folding.{written, written_module, written_modules, IsFolded, AreFolded}
 use Rattle.sc_elab.specs.Frames.{view, made}
 use Rattle.sc_elab.specs.FunctionBodies.{function_on, MakesBody, MakesNone}
 use Rattle.sc_meaning.specs.Instances.{with_key, with_module, number_in_deck}
-use Rattle.sc_meaning.specs.Kept.{In, Held}
+use Rattle.sc_meaning.specs.Kept.{In, Seen, Held}
 use Rattle.sc_meaning.specs.Local.{Half, Made, make, make_one, with_half, with_entry, unless_many, ran, local_body, local}
-use Rattle.sc_elab.specs.Machines.{kept, around, IsCalled, IsRefusedCall, IsEntered, RunsOn, IsRefusedOn, KeepsBodies}
+use Rattle.sc_elab.specs.Machines.{kept, around, IsCalled, IsRefusedCall, IsEntered, RunsOn, IsRefusedOn, AreHeld, KeepsBodies, GrowsTo}
 use Rattle.sc_meaning.specs.Outcomes.{Outcome, Done, Stopped, after, then_do, leaving}
 use Rattle.sc_meaning.specs.Programs.{program_of}
 use Rattle.sc_meaning.specs.Run.{entered, body, acts, start_state}
@@ -36,10 +41,13 @@ use Rattle.sc_meaning.specs.States.{State}
 use Rattle.sc_meaning.specs.Values.{◌>>=◌}
 use Rattle.sc_elab.specs.Typings.{IsEntering}
 use Rattle.sc_elab.proofs.Executing.{ran_leaving}
-use Rattle.sc_elab.proofs.FoldedDecks.{length_written, number_written, heights_written, written_put}
-use Rattle.sc_elab.proofs.KeptBodies.{entering_fits, held_of, number_pushed}
+use Rattle.sc_elab.proofs.FoldedDecks.{length_written, number_written, heights_written, written_put, folded_put}
+use Rattle.sc_elab.proofs.Adding.{new_number, number_new}
+use Rattle.sc_elab.proofs.KeptBodies.{entering_fits, held_entered, held_of, number_pushed, IsRun, is_run, new_behind, seen_behind, held_with}
+use Rattle.sc_elab.proofs.RoomLaws.{AreAmong, few_bodies}
 use Rattle.sc_meaning.proofs.Fitting.{accepted_fits}
 use Rattle.sc_meaning.proofs.Grown.{entry_is}
+use Rattle.sc_meaning.proofs.Heights.{seen_self}
 use Rattle.sc_meaning.proofs.Kept.{stands_for, kept_too_deep}
 use Rattle.sc_meaning.proofs.Opening.{local_is, zero_is, few_is}
 use Rattle.sc_meaning.proofs.Ran.{many, ran_after, ran_next, ran_stop, ran_one, ran_done, ran_fault}
@@ -216,6 +224,69 @@ module _ (t : TypedSource) (m : Machine) (keeps : KeepsBodies t m) (key : Key) (
       let same = same_height in
       kept_too_deep (program_of t) choice (written_modules m.deck) m.entered.keys key (slice_index (heights_of (written_modules m.deck)) (number_in_deck (written_modules m.deck) key)) depth held_here
       (omega arith) keeps.few wires next opened
+
+-- ---- a body that is added
+
+-- what is known stays, where one more key is entered
+pub keeps_entered : (t : TypedSource) (m m1 : Machine) (key : Key) → KeepsBodies t m → m1.entered.keys ≡ with_key m.entered.keys key → m1.deck ≡ m.deck → length m1.entered.keys ≤ 65536 → KeepsBodies t m1
+keeps_entered t m m1 key h keys deck few = record {
+  few = few;
+  folded = subst AreFolded (sym deck) h.folded;
+  entering = subst (λ (d : List Module). All (λ b. IsEntering t b.key) d) (sym deck) h.entering;
+  held = subst (λ (d : List Module). AreHeld (program_of t) (written_modules d) m1.entered.keys) (sym deck)
+      (subst (λ (ks : List Key). AreHeld (program_of t) (written_modules m.deck) ks) (sym keys) (held_entered (program_of t) (written_modules m.deck) m.entered.keys key h.held));
+}
+
+module _ (t : TypedSource) (accepted : IsAccepted t) (choice : Choice) (n : ℕ) (low : n ≤ 256) (key : Key) (entering : IsEntering t key) (m m1 m2 : Machine) (items : List Item) (own : Numbers) (new : IsNewKey m.deck key) (keys : m1.entered.keys ≡ with_key m.entered.keys key) (deck : m1.deck ≡ m.deck) (runs : BodyRuns choice (program_of t) n key m1 own items m2) (keeps : KeepsBodies t m2) where
+  done : IsRun (program_of t) choice n key (written_modules m1.deck) m1.entered.keys (written items) (written_modules m2.deck) m2.entered.keys
+  done = is_run (program_of t) choice n key (written_modules m1.deck) m1.entered.keys own (written items) (written_modules m2.deck) m2.entered.keys (runs [] [])
+
+  new_written : number_in_deck (written_modules m1.deck) key ≡ length (written_modules m1.deck)
+  new_written = number_written m1.deck key ∙ ap (λ (d : List Module). number_in_deck d key) deck ∙ new_number m.deck key new ∙ ap length (sym deck) ∙ sym (length_written m1.deck)
+
+  seen_first : Seen m1.entered.keys key
+  seen_first = subst (λ (ks : List Key). Seen ks key) (sym keys) (seen_self m.entered.keys key)
+
+  -- behind its body the key is still new
+  pub new_still : number_in_deck m2.deck key ≡ length m2.deck
+  new_still =
+      sym (number_written m2.deck key)
+      ∙ new_behind t accepted choice n low key entering (written_modules m1.deck) m1.entered.keys (written items) (written_modules m2.deck) m2.entered.keys done new_written
+      ∙ length_written m2.deck
+
+  among : AreAmong m2.entered.keys m2.deck
+  among i b at = (keeps.held i (written_module b) (slice_get-map written_module m2.deck i ∙ ap (option_map written_module) at)).seen
+
+  -- there is room for the body
+  pub room_for : IsDeck m2.deck → length m2.deck < 65536
+  room_for sound =
+      let seen : Seen m2.entered.keys key = seen_behind t accepted choice n low key entering (written_modules m1.deck) m1.entered.keys (written items) (written_modules m2.deck) m2.entered.keys done seen_first in
+      let fewer = few_bodies m2.deck m2.entered.keys key sound among seen (number_new m2.deck key new_still) in
+      let few = keeps.few in
+      omega arith
+
+  -- what is known with the body
+  pub keeps_pushed : (m3 : Machine) → m3.deck ≡ m2.deck ++ record { key = key; items = items } ∷ [] → m3.entered.keys ≡ m2.entered.keys → IsFolded items → KeepsBodies t m3
+  keeps_pushed m3 pushed_is same folded =
+      let body : Module = record { key = key; items = items } in
+      let put : with_module m2.deck key items ≡ m3.deck = entry_is m2.deck key items new_still ∙ sym pushed_is in
+      let out : written_modules m3.deck ≡ written_modules m2.deck ++ written_module body ∷ [] = ap written_modules pushed_is ∙ map-append written_module m2.deck (body ∷ []) in
+      record {
+        few = subst (λ (ks : List Key). length ks ≤ 65536) (sym same) keeps.few;
+        folded = subst AreFolded put (folded_put m2.deck key items keeps.folded folded);
+        entering = subst (λ (d : List Module). All (λ b. IsEntering t b.key) d) (sym pushed_is) (All-push (λ b. IsEntering t b.key) m2.deck body keeps.entering entering);
+        held = subst (λ (d : List Module). AreHeld (program_of t) d m3.entered.keys) (sym out)
+            (subst (λ (ks : List Key). AreHeld (program_of t) (written_modules m2.deck ++ written_module body ∷ []) ks) (sym same)
+            (held_with t accepted choice n low key entering (written_modules m1.deck) m1.entered.keys (written items) (written_modules m2.deck) m2.entered.keys done new_written keeps.held seen_first));
+      }
+
+-- ---- decks that grow
+
+pub grows_none : (deck : List Module) → GrowsTo deck deck
+grows_none deck = record { more = []; is = sym (append-nil deck) }
+
+pub grows_then : (a b c : List Module) → GrowsTo a b → GrowsTo b c → GrowsTo a c
+grows_then a b c g h = record { more = g.more ++ h.more; is = h.is ∙ ap (λ (d : List Module). d ++ h.more) g.is ∙ append_assoc a g.more h.more }
 
 -- ---- one level deeper
 

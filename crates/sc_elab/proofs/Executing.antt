@@ -1,9 +1,11 @@
 -- A body with its calls, part by part.
 use Rattle.std.proofs.Common.{◌≡◌, ℕ, zero, suc, ◌+◌, ◌*◌, ◌<◌, ◌≤◌, Bool, true, false, cond, List, [], ◌∷◌, ◌++◌, length, Option, Some, None, Result, Ok, Err, refl, sym, ap, ◌∙◌, subst, arith}
-use Rattle.std.specs.Prelude.{nat_lt}
+use Rattle.std.specs.Prelude.{nat_lt, map, slice_get, IsSomeAnd}
+use Rattle.std.specs.Option.{option_map}
 use Rattle.std.specs.Borrow.{Bor}
 use Rattle.std.proofs.lemmas.Bool.Decides.{nat_tests}
 use Rattle.sc_gate.specs.declared.gate.Wire.{Wire}
+use Rattle.sc_gate.specs.Gates.{class_of}
 use Rattle.sc_gate.specs.Numbers.{Numbers, both}
 use Rattle.sc_deck.specs.declared.key.Key.{Key}
 use Rattle.sc_deck.specs.declared.item.Item.{Item}
@@ -11,12 +13,14 @@ use Rattle.sc_deck.specs.declared.item.Item.TheVariants as item
 use Rattle.sc_deck.specs.Bodies.{Contents, wires_of}
 use Rattle.sc_deck.specs.Decks.{CallFits, ItemCallFits, CallsFit}
 use Rattle.sc_deck.specs.Events.{Event}
-use Rattle.sc_deck.specs.Modules.{Module}
+use Rattle.sc_deck.specs.Keys.{param_classes}
+use Rattle.sc_deck.specs.Modules.{Module, key_of}
 use Rattle.sc_deck.specs.Turns.{last_turns, with_folded}
 use Rattle.sc_deck.proofs.BodyLemmas.{after_items-push}
 use Rattle.sc_deck.proofs.FoldLaws.{with_folded-stands}
 use Rattle.sc_syntax.specs.declared.Stmt.{Stmt}
 use Rattle.sc_syntax.specs.Alike.{pure_stmt_list}
+use Rattle.sc_types.specs.Typing.{TypedSource}
 use Rattle.sc_meaning.proofs.Opening.{few_is}
 use Rattle.sc_meaning.specs.declared.choice.Choice.{Choice}
 use Rattle.sc_meaning.specs.declared.fault.ElabFault.{ElabFault}
@@ -36,6 +40,7 @@ use Rattle.sc_elab.specs.Pending.{doing, pending, asked, after_asked}
 use Rattle.sc_meaning.specs.Run.{Callee, finish, back_in, acts}
 use Rattle.sc_meaning.specs.States.{State}
 use Rattle.sc_meaning.specs.Values.{◌>>=◌}
+use Rattle.sc_elab.specs.Typings.{IsTyped, IsTypedBody}
 use Rattle.sc_elab.proofs.Folding.{FoldsIn, folds_one, turns_more}
 use Rattle.sc_elab.proofs.PendingLaws.{pending_last}
 use Rattle.sc_meaning.proofs.Ran.{many, then_none, ran_next, ran_stop, ran_done}
@@ -155,6 +160,18 @@ module _ (f g : Frame) (number : ℕ) (ws : List Wire) (body : g.body ≡ record
       subst (λ (l : List Item). last_turns l ≤ last_turns f.body.items + 1) (sym (ap (λ (b : Contents). b.items) body)) (turns_more f.body.items (item.Call number ws) refl) in
       let steps : g.steps ≡ f.steps = ap (λ (h : Frame). h.steps) same in
       omega arith
+
+-- a call of a body that is there
+pub call_fits : (deck : List Module) (number : ℕ) (key : Key) (ws : List Wire) → option_map key_of (slice_get deck number) ≡ Some key → map class_of ws ≡ param_classes key → CallFits deck number ws
+call_fits deck number key ws is classes = by (slice_get deck number) is
+  where
+    by : (o : Option Module) → option_map key_of o ≡ Some key → IsSomeAnd o (λ m. map class_of ws ≡ param_classes m.key)
+    by None e = absurd (let impossible : None ≡ Some key = e in cc)
+    by (Some m) e = let same : m.key ≡ key = cc in classes ∙ ap param_classes (sym same)
+
+-- what is said of a body that is being run speaks of what it is to the run
+pub typed_same : (t : TypedSource) (f g : Frame) (todo : List Todo) → view g ≡ view f → IsTypedBody t f todo → IsTypedBody t g todo
+typed_same t f g todo same h = record { names = h.names; typed = subst (IsTyped h.names) (sym same) h.typed; fine = h.fine }
 
 pub call_runs : (choice : Choice) (call : Callee) (r : Request) (m m' : Machine) (f g : Frame) (number : ℕ)
     → IsCalled choice (call r.key) m number m' → g.body ≡ record f.body { items = with_folded f.body.items (item.Call number r.wires.items) } → g ≡ record f { body = g.body } → IsFolded f.body.items

@@ -37,6 +37,7 @@ use Rattle.sc_meaning.proofs.Last.{each_weaker, not_inside, not_added}
 use Rattle.sc_meaning.proofs.Leasts.{HeightsStand, heights_known, length_heights}
 use Rattle.sc_meaning.proofs.Ran.{many, few_by}
 use Rattle.sc_meaning.proofs.Sharing.{Shares, body_shares}
+use Rattle.sc_meaning.proofs.Top.{make_keys}
 use Rattle.sc_elab.specs.Frames.{made}
 use Rattle.sc_elab.specs.FunctionBodies.{HasWidths}
 use Rattle.sc_elab.specs.Machines.{AreHeld}
@@ -178,6 +179,12 @@ module _ (t : TypedSource) (accepted : IsAccepted t) (choice : Choice) (n : ℕ)
   new_behind new =
       subst (λ (m : Made). number_in_deck m.deck key ≡ length m.deck) r.makes
       (not_added choice r.events (made [] [] [] deck keys) key (not_inside (program_of t) n key r.events r.own r.is) new)
+
+  -- and a key that was entered before is among those that were entered behind it
+  pub seen_behind : Seen keys key → Seen keys' key
+  seen_behind seen =
+      subst (λ (m : Made). Seen m.keys key) r.makes
+      (subst (λ (ks : List Key). Seen ks key) (sym (make_keys choice r.events (made [] [] [] deck keys))) (seen_along r.events keys key seen))
 
   shares : Shares (program_of t) choice r.events
   shares = body_shares choice (program_of t) _ (accepted_fits t accepted) n low key (entering_fits t key entering) r.events r.own r.is

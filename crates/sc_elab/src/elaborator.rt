@@ -191,8 +191,8 @@ fn call(given: Given<'_>, machine: &mut Machine, depth: usize, key: Key) -> Resu
     ensures ok { IfOk result (λ number. IsCalled given.entry.choice (local (program_of given.entry.checked.now) depth key) machine.old number machine.new) }
     ensures err { IfErr result (λ f. f ≢ ElabFault.Memory → IsRefusedCall given.entry.choice (local (program_of given.entry.checked.now) depth key) machine.old f) }
 {
-    if let Some(number) = machine.deck.find(&key) {
-        return machine.within(number, depth);
+    if let Some(number) = machine.kept(&key, depth)? {
+        return Ok(number);
     }
     if depth == 0 {
         return Err(ElabFault::TooDeep);

@@ -1,7 +1,9 @@
 //! What is kept from one body to the next.
-ghost use Rattle.std.specs.Prelude.{◌≡◌, ◌≢◌, ◌<◌, ◌≤◌, length, slice_index, OnOk, IfOk, IfErr};
+ghost use Rattle.std.specs.Prelude.{◌≡◌, ◌≢◌, ◌<◌, ◌≤◌, length, slice_index, OnOk, IfOk, IfErr, IfSome, IfNone};
+ghost use Rattle.sc_deck.specs.Decks.{IsNewKey};
 ghost use Rattle.sc_deck.specs.Modules.{heights_of};
-ghost use Rattle.sc_meaning.specs.Instances.{with_key};
+ghost use Rattle.sc_meaning.specs.Instances.{with_key, number_in_deck};
+ghost use Rattle.sc_meaning.specs.Kept.{In};
 ghost use Rattle.sc_elab.specs.Machines.{IsEntered};
 
 use indexmap::IndexSet;
@@ -39,21 +41,29 @@ impl Machine {
         }
     }
 
-    /// The number of a body, where its height is at most the depth that is left.
-    pub(crate) fn within(&self, number: u32, depth: usize) -> Result<u32, ElabFault>
-        requires { number < length self.now.deck }
-        ensures ok { IfOk result (λ n. (n ≡ number) × (slice_index (heights_of self.now.deck) number ≤ depth)) }
-        ensures err { IfErr result (λ f. (f ≡ ElabFault.TooDeep) × (depth < slice_index (heights_of self.now.deck) number)) }
+    /// The number of the body of a key that has returned, and none where it has not. Where its height is more than the depth
+    /// that is left, another entering of it goes too deep.
+    #[tactic(auto, using(crate::proofs::Adding::number_found, crate::proofs::Adding::found_below))]
+    pub(crate) fn kept(&self, key: &Key, depth: usize) -> Result<Option<u32>, ElabFault>
+        ensures number { IfOk result (λ o. IfSome o (λ n. n ≡ number_in_deck self.now.deck key.now)) }
+        ensures there { IfOk result (λ o. IfSome o (λ n. In self.now.deck key.now)) }
+        ensures low { IfOk result (λ o. IfSome o (λ n. slice_index (heights_of self.now.deck) n ≤ depth)) }
+        ensures new { IfOk result (λ o. IfNone o (IsNewKey self.now.deck key.now)) }
+        ensures err { IfErr result (λ f. f ≡ ElabFault.TooDeep) }
+        ensures deep { IfErr result (λ f. In self.now.deck key.now) }
+        ensures high { IfErr result (λ f. depth < slice_index (heights_of self.now.deck) (number_in_deck self.now.deck key.now)) }
     {
-        match self.deck.height(number) {
-            None => unreachable!(),
-            Some(height) => {
-                if height as usize <= depth {
-                    Ok(number)
-                } else {
-                    Err(ElabFault::TooDeep)
-                }
-            }
+        let Some(number) = self.deck.find(key) else {
+            return Ok(None);
+        };
+        let count = self.deck.len();
+        prove!(number < count);
+        let Some(height) = self.deck.height(number) else {
+            unreachable!()
+        };
+        if height as usize > depth {
+            return Err(ElabFault::TooDeep);
         }
+        Ok(Some(number))
     }
 }

@@ -13,16 +13,18 @@ ghost use Rattle.sc_meaning.specs.Definitions.{of_module, definition};
 ghost use Rattle.sc_meaning.specs.Programs.{program_of};
 ghost use Rattle.sc_types.specs.Accepted.{IsAccepted};
 ghost use Rattle.sc_elab.specs.Typings.{IsEntering, IsTypedBody};
+ghost use Rattle.sc_syntax.specs.declared.Stmt.{Stmt};
+ghost use Rattle.sc_elab.specs.declared.todo.Todo.TheVariants.{Rest};
+ghost use Rattle.sc_elab.specs.Folding.{HasRoom};
 ghost use Rattle.sc_elab.specs.Spans.{span_wires};
 ghost use Rattle.sc_elab.specs.Starting.{numbers_of, with_args, with_param};
 
 use crate::callee::callee_numbers;
 use crate::frame::Frame;
 use crate::span::Span;
-use crate::todo::Todo;
 use sc_base::{Class, MOST_STEPS, MOST_WIRES, Memory, NameMap, Text};
 use sc_deck::{Arg, Body, Key};
-use sc_syntax::{Module, Param, Stmt};
+use sc_syntax::{Module, Param};
 use sc_types::Checked;
 use std::alloc::Global;
 
@@ -154,19 +156,20 @@ fn param_wires(alloc: Global, params: &[Param], args: &[Arg]) -> Result<NameMap<
 pub(crate) fn start_frame(
     alloc: Global,
     checked: &Checked,
-    called: &Module,
+    module: &Module,
     key: &Key,
 ) -> Result<Frame, Memory>
     requires accepted { IsAccepted checked.now }
+    requires defined { definition (program_of checked.now) key.now.name ≡ Some (of_module module.now.name (map pure_param module.now.params) (pure_stmt_list module.now.body)) }
     requires entering { IsEntering checked.now key.now }
-    requires module { definition (program_of checked.now) key.now.name ≡ Some (of_module called.now.name (map pure_param called.now.params) (pure_stmt_list called.now.body)) }
-    ensures view { IfOk result (λ f. view f ≡ start_state (map pure_param called.now.params) key.now.args (numbered (param_classes key.now) no_wires) (params_of key.now)) }
+    ensures view { IfOk result (λ f. view f ≡ start_state (map pure_param module.now.params) key.now.args (numbered (param_classes key.now) no_wires) (params_of key.now)) }
+    ensures typed { IfOk result (λ f. (stmts : Bor (List Stmt)) → stmts.now ≡ module.now.body → IsTypedBody checked.now f (Rest stmts ∷ [])) }
     ensures items { IfOk result (λ f. f.body.items ≡ []) }
     ensures params { IfOk result (λ f. f.body.params ≡ params_of key.now) }
-    ensures typed { IfOk result (λ f. (stmts : Bor (List Stmt)) → stmts.now ≡ called.now.body → IsTypedBody checked.now f (Todo.Rest stmts ∷ [])) }
+    ensures turns { IfOk result (λ f. HasRoom f) }
 {
     let args = key.args.as_slice();
-    let params = called.params.as_slice();
+    let params = module.params.as_slice();
     let numbers = callee_numbers(alloc, params, args)?;
     let scope = param_wires(alloc, params, args)?;
     let counts = param_counts(args)?;
