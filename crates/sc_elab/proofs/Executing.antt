@@ -11,7 +11,7 @@ use Rattle.sc_deck.specs.declared.key.Key.{Key}
 use Rattle.sc_deck.specs.declared.item.Item.{Item}
 use Rattle.sc_deck.specs.declared.item.Item.TheVariants as item
 use Rattle.sc_deck.specs.Bodies.{Contents, wires_of}
-use Rattle.sc_deck.specs.Decks.{CallFits, ItemCallFits, CallsFit}
+use Rattle.sc_deck.specs.Decks.{CallFits, CallsFit}
 use Rattle.sc_deck.specs.Events.{Event}
 use Rattle.sc_deck.specs.Keys.{param_classes}
 use Rattle.sc_deck.specs.Modules.{Module, key_of}
@@ -41,13 +41,10 @@ use Rattle.sc_meaning.specs.Run.{Callee, finish, back_in, acts}
 use Rattle.sc_meaning.specs.States.{State}
 use Rattle.sc_meaning.specs.Values.{◌>>=◌}
 use Rattle.sc_elab.specs.Typings.{IsTyped, IsTypedBody}
+use Rattle.sc_elab.proofs.FoldedDecks.{calls_append}
 use Rattle.sc_elab.proofs.Folding.{FoldsIn, folds_one, turns_more}
 use Rattle.sc_elab.proofs.PendingLaws.{pending_last}
 use Rattle.sc_meaning.proofs.Ran.{many, then_none, ran_next, ran_stop, ran_done}
-
-calls_push : (deck : List Module) (items : List Item) (i : Item) → CallsFit deck items → ItemCallFits deck i → CallsFit deck (items ++ i ∷ [])
-calls_push deck [] i fit one = (one, tt)
-calls_push deck (j ∷ items) i fit one = (fit.0, calls_push deck items i fit.1 one)
 
 -- the whole has come to what is still to do
 abbrev pub Comes : Choice → Program → Callee → Outcome State → Machine → Frame → Machine → Frame → List Todo → Type 0
@@ -152,7 +149,7 @@ module _ (f g : Frame) (number : ℕ) (ws : List Wire) (body : g.body ≡ record
   pub calls_called : (deck : List Module) → CallsFit deck f.body.items → CallFits deck number ws → CallsFit deck g.body.items
   calls_called deck fit one =
       subst (CallsFit deck) (sym (ap (λ (b : Contents). b.items) body))
-      ((with_folded-stands f.body.items (item.Call number ws)).call deck (calls_push deck f.body.items (item.Call number ws) fit one))
+      ((with_folded-stands f.body.items (item.Call number ws)).call deck (calls_append deck f.body.items (item.Call number ws ∷ []) fit (one, tt)))
 
   pub room_called : g ≡ record f { body = g.body } → last_turns f.body.items + 1 + 64 * f.steps ≤ 64 * 1048576 → HasRoom g
   room_called same room =

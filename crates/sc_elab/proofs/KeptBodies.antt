@@ -32,7 +32,7 @@ use Rattle.sc_meaning.proofs.Fitting.{accepted_fits}
 use Rattle.sc_meaning.proofs.Grown.{entry_is}
 use Rattle.sc_meaning.proofs.Heights.{tallest, Heights, seen_along}
 use Rattle.sc_meaning.proofs.Kept.{held_added}
-use Rattle.sc_meaning.proofs.Known.{pushed, Grows, grows_entry, in_grows, stands, last_entry}
+use Rattle.sc_meaning.proofs.Known.{pushed, Grows, grows_none, grows_entry, in_grows, stands, last_entry}
 use Rattle.sc_meaning.proofs.Last.{each_weaker, not_inside, not_added}
 use Rattle.sc_meaning.proofs.Leasts.{HeightsStand, heights_known, length_heights}
 use Rattle.sc_meaning.proofs.Ran.{many, few_by}
@@ -85,7 +85,7 @@ held_later program deck deck' keys keys' key height grows more h = record {
 -- where one more key is entered
 pub held_entered : (program : Program) (deck : List Module) (keys : List Key) (key : Key) → AreHeld program deck keys → AreHeld program deck (with_key keys key)
 held_entered program deck keys key held i m at =
-    held_later program deck deck keys (with_key keys key) m.key (slice_index (heights_of deck) i) (record { keeps = λ k h. refl; more = omega arith })
+    held_later program deck deck keys (with_key keys key) m.key (slice_index (heights_of deck) i) (grows_none deck)
     (λ k s. seen_along (Enter key [] ∷ []) keys k s) (held i m at)
 
 -- the body of a key that is there

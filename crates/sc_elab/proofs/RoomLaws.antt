@@ -72,10 +72,12 @@ module _ (deck : List Module) (keys : List Key) (d : Module) (sound : IsDeck dec
   -- with a key that is new there are fewer bodies than keys
   pub few_with : length deck < length keys
   few_with =
+      let least : suc (length deck) ≤ length keys =
       pigeonhole (suc (length deck)) (length keys) (λ i. first_in keys (get_or deck i d).key)
       (λ i below. first_below keys (get_or deck i d).key (among_at i (cases_lt i (length deck))))
       (λ i j p q e. once_at i j p q (cases_lt i (length deck)) (cases_lt j (length deck))
-      (first_same keys (get_or deck i d).key (get_or deck j d).key (among_at i (cases_lt i (length deck))) (among_at j (cases_lt j (length deck))) e))
+      (first_same keys (get_or deck i d).key (get_or deck j d).key (among_at i (cases_lt i (length deck))) (among_at j (cases_lt j (length deck))) e)) in
+      omega arith
 
 -- ROOM FOR ONE MORE: a deck whose keys are among these, with another key that is among them
 pub few_bodies : (deck : List Module) (keys : List Key) (key : Key) → IsDeck deck → AreAmong keys deck → IsAmong keys key → IsNewKey deck key → length deck < length keys

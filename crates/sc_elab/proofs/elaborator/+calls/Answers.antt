@@ -1,37 +1,44 @@
-use Rattle.std.proofs.Common.{◌≡◌, ◌<◌, ◌≤◌, ◌-◌, List, [], ◌∷◌, ◌++◌, length, Option, Some, None, refl, sym, ap, ◌∙◌, subst, arith, length-append}
-use Rattle.std.specs.Prelude.{map}
+use Rattle.std.proofs.Common.{◌≡◌, ℕ, ◌<◌, ◌≤◌, ◌-◌, List, [], ◌∷◌, ◌++◌, length, Option, Some, None, refl, sym, ap, ◌∙◌, subst, arith, length-append}
+use Rattle.std.specs.Prelude.{map, slice_get, IfSome}
 use Rattle.std.specs.FinMap.{empty}
+use Rattle.std.specs.Option.{option_map}
 use Rattle.std.proofs.lemmas.Result.{err_from_is_err_and, IfOk-weaker, IfErr-weaker}
 use Rattle.sc_gate.specs.declared.gate.Wire.{Wire}
-use Rattle.sc_gate.specs.Numbers.{no_wires}
-use Rattle.sc_syntax.specs.declared.Param.{Param}
+use Rattle.sc_gate.specs.Gates.{class_of, AreDistinct}
+use Rattle.sc_gate.specs.Numbers.{no_wires, AreThere}
 use Rattle.sc_syntax.specs.declared.Stmt.{Stmt}
-use Rattle.sc_syntax.specs.Alike.{pure_param, pure_stmt, pure_stmt_list, in_row}
+use Rattle.sc_syntax.specs.Alike.{pure_param, pure_stmt_list}
 use Rattle.sc_value.specs.Scopes.{Scopes}
 use Rattle.sc_deck.specs.declared.key.Key.{Key}
 use Rattle.sc_deck.specs.declared.item.Item.{Item}
 use Rattle.sc_deck.specs.declared.item.Item.TheVariants as item
-use Rattle.sc_deck.specs.Bodies.{Contents, wires_of, with_item}
+use Rattle.sc_deck.specs.Bodies.{Contents, wires_of}
+use Rattle.sc_deck.specs.Decks.{CallsFit}
 use Rattle.sc_deck.specs.Keys.{param_classes, params_of}
+use Rattle.sc_deck.specs.Modules.{Module as Instance, key_of}
+use Rattle.sc_deck.specs.Turns.{with_folded}
 use Rattle.sc_deck.specs.Unfolding.{numbered}
+use Rattle.sc_deck.proofs.CallLaws.{CallsFit-more}
 use Rattle.sc_elab.specs.declared.callee.Callee.{Callee}
 use Rattle.sc_elab.specs.declared.callee.Callee.TheVariants.{Module, Words}
 use Rattle.sc_elab.specs.declared.frame.Frame.{Frame}
 use Rattle.sc_elab.specs.declared.todo.Todo.{Todo}
 use Rattle.sc_elab.specs.declared.todo.Request.{Request}
 use Rattle.sc_elab.specs.Callees.{definition_by}
-use Rattle.sc_meaning.specs.Definitions.{Definition, definition}
-use Rattle.sc_elab.specs.Fine.{taken_by_source, AreFineStmts, AreFineParts, FitsRequest}
+use Rattle.sc_elab.specs.Folding.{IsFolded, HasRoomFor}
 use Rattle.sc_elab.specs.Frames.{view, Advanced}
-use Rattle.sc_meaning.specs.Local.{local, local_body}
-use Rattle.sc_elab.specs.Machines.{RunsOn, IsRefusedOn, RunsBody}
+use Rattle.sc_elab.specs.Machines.{IsRefusedCall, RunsOn, IsRefusedOn, RunsBody}
 use Rattle.sc_elab.specs.Pending.{doing, leaves}
+use Rattle.sc_elab.specs.Typings.{Takes, IsTypedBody, IsTypedCall}
+use Rattle.sc_meaning.specs.declared.fault.ElabFault.{ElabFault}
+use Rattle.sc_meaning.specs.Definitions.{Definition, definition}
+use Rattle.sc_meaning.specs.Local.{local, local_body}
 use Rattle.sc_meaning.specs.Programs.{program_of, function_of}
 use Rattle.sc_meaning.specs.Run.{acts, start_state}
 use Rattle.sc_meaning.specs.States.{State}
-use Rattle.sc_elab.proofs.Calling.{call_deep, call_many, call_refused_inside, call_made, body_none, body_module, body_stopped, body_function, body_wide, called_at, refused_call_at}
-use Rattle.sc_elab.proofs.CallsFit.{fine_module}
-use Rattle.sc_elab.proofs.Executing.{one_part_left, comes_begin, comes_on, comes_called, comes_stop, comes_refused, comes_end, call_runs, call_refused}
+use Rattle.sc_elab.proofs.Adding.{key_there, key_pushed, number_new}
+use Rattle.sc_elab.proofs.Calling.{call_deep, call_many, call_refused_inside, call_made, call_kept, call_too_deep, keeps_entered, new_still, room_for, keeps_pushed, grows_none, grows_then, body_module, body_stopped, body_function, body_wide, deeper, called_at, refused_call_at}
+use Rattle.sc_elab.proofs.Executing.{one_part_left, comes_begin, comes_on, comes_called, comes_stop, comes_refused, comes_end, view_called, folds_called, calls_called, room_called, call_fits, typed_same, call_runs, call_refused}
 use Rattle.sc_elab.proofs.Keeping.{length_number_params}
 use Rattle.sc_elab.proofs.elaborator.+calls.Goals as goal
 
@@ -186,7 +193,7 @@ call_from-returns-clause-calls t c =
     let f = c.args.frame.now in
     let deck = c.call.new.machine.deck in
     let grown : CallsFit deck f.body.items =
-    subst (λ (d : List ModuleItems). CallsFit d f.body.items) (sym c.in_ok-number.ensures.grows.is) (CallsFit-more c.args.machine.now.deck c.in_ok-number.ensures.grows.more f.body.items c.requires.calls) in
+    subst (λ (d : List Instance). CallsFit d f.body.items) (sym c.in_ok-number.ensures.grows.is) (CallsFit-more c.args.machine.now.deck c.in_ok-number.ensures.grows.more f.body.items c.requires.calls) in
     let one = call_fits deck c.in_ok-number.number c.args.request.key c.deref.result.now c.in_ok-number.ensures.key (ap (map class_of) c.deref.ensures.value ∙ c.requires.call.classes) in
     calls_called f (record f { body = c.fold_call.new.self }) c.in_ok-number.number c.deref.result.now c.in_ok-fold_call.ensures.ok deck grown one
 
@@ -327,12 +334,43 @@ call-body_of-requires t c =
     let low = c.requires.depth in
     (omega arith, (c.requires.accepted, (omega arith, (keeps, c.requires.entering))))
 
+pub call-push_body-requires : goal.call-push_body-requires
+call-push_body-requires t c =
+    let source = c.args.given.checked.now in
+    let low : c.args.depth - 1 ≤ 256 = let l = c.requires.depth in omega arith in
+    let new = new_still source c.requires.accepted c.args.given.choice (c.args.depth - 1) low c.args.key c.requires.entering c.args.machine.now c.enter.new.self c.body_of.new.machine c.in_ok-body.body.items c.in_ok-body.ensures.ok.own
+        c.in_default.ensures.new c.in_ok-enter.ensures.ok c.in_ok-enter.ensures.deck c.in_ok-body.ensures.ok.runs c.in_ok-body.ensures.kept in
+    let room = room_for source c.requires.accepted c.args.given.choice (c.args.depth - 1) low c.args.key c.requires.entering c.args.machine.now c.enter.new.self c.body_of.new.machine c.in_ok-body.body.items c.in_ok-body.ensures.ok.own
+        c.in_default.ensures.new c.in_ok-enter.ensures.ok c.in_ok-enter.ensures.deck c.in_ok-body.ensures.ok.runs c.in_ok-body.ensures.kept c.len-number.ensures.sound in
+    (number_new c.body_of.new.machine.deck c.args.key new, (c.requires.entering.lengths, (c.in_ok-body.ensures.params, (room, c.in_ok-body.ensures.calls))))
+
+pub call-returns-clause-kept : goal.call-returns-clause-kept
+call-returns-clause-kept t c =
+    let source = c.args.given.checked.now in
+    let low : c.args.depth - 1 ≤ 256 = let l = c.requires.depth in omega arith in
+    keeps_pushed source c.requires.accepted c.args.given.choice (c.args.depth - 1) low c.args.key c.requires.entering c.args.machine.now c.enter.new.self c.body_of.new.machine c.in_ok-body.body.items c.in_ok-body.ensures.ok.own
+    c.in_default.ensures.new c.in_ok-enter.ensures.ok c.in_ok-enter.ensures.deck c.in_ok-body.ensures.ok.runs c.in_ok-body.ensures.kept
+    (record c.body_of.new.machine { deck = c.push_body.new.self }) c.in_ok-push_body.ensures.pushed refl c.in_ok-body.ensures.folded
+
+pub call-returns-clause-grows : goal.call-returns-clause-grows
+call-returns-clause-grows t c =
+    let grown = c.in_ok-body.ensures.grows in
+    grows_then c.args.machine.now.deck c.body_of.new.machine.deck c.push_body.new.self
+    (record { more = grown.more; is = grown.is ∙ ap (λ (d : List Instance). d ++ grown.more) c.in_ok-enter.ensures.deck })
+    (record { more = record { key = c.args.key; items = c.in_ok-body.body.items } ∷ []; is = c.in_ok-push_body.ensures.pushed })
+
+pub call-returns-clause-key : goal.call-returns-clause-key
+call-returns-clause-key t c =
+    let body : Instance = record { key = c.args.key; items = c.in_ok-body.body.items } in
+    (λ i. option_map key_of (slice_get (c.in_ok-push_body.ensures.pushed i) (c.len-number.ensures.count i))) ∙ key_pushed c.body_of.new.machine.deck body
+
 pub call-returns-clause-ok : goal.call-returns-clause-ok
 call-returns-clause-ok t c =
-    let program = program_of c.args.given.checked.now in
-    called_at c.args.given.choice program c.args.depth c.args.key c.args.machine.now c.add.new.self c.in_ok-number.number c.if-depth-eq0.false
-    (call_made c.args.given.choice program (c.args.depth - 1) c.args.key c.args.machine.now c.enter.new.self c.body_of.new.machine c.add.new.self c.in_ok-number.number c.in_ok-body.body.items c.in_ok-body.ensures.ok.own
-    c.in_ok-enter.ensures.ok c.in_ok-enter.ensures.deck c.in_ok-enter.ensures.few c.in_ok-body.ensures.ok.runs c.in_ok-body.ensures.room c.in_ok-number.ensures.deck c.in_ok-number.ensures.number c.in_ok-number.ensures.keys)
-
-pub call-returns-clause-room : goal.call-returns-clause-room
-call-returns-clause-room t c = subst (λ (ks : List Key). length ks ≤ 65536) (sym c.in_ok-number.ensures.keys) c.in_ok-body.ensures.room
+    let source = c.args.given.checked.now in
+    let low : c.args.depth - 1 ≤ 256 = let l = c.requires.depth in omega arith in
+    let new = new_still source c.requires.accepted c.args.given.choice (c.args.depth - 1) low c.args.key c.requires.entering c.args.machine.now c.enter.new.self c.body_of.new.machine c.in_ok-body.body.items c.in_ok-body.ensures.ok.own
+        c.in_default.ensures.new c.in_ok-enter.ensures.ok c.in_ok-enter.ensures.deck c.in_ok-body.ensures.ok.runs c.in_ok-body.ensures.kept in
+    let last : _ = record c.body_of.new.machine { deck = c.push_body.new.self } in
+    called_at c.args.given.choice (program_of source) c.args.depth c.args.key c.args.machine.now last c.len-number.result c.if-depth-eq0.false
+    (call_made c.args.given.choice (program_of source) (c.args.depth - 1) c.args.key c.args.machine.now c.enter.new.self c.body_of.new.machine last c.len-number.result c.in_ok-body.body.items c.in_ok-body.ensures.ok.own
+    c.in_ok-enter.ensures.ok c.in_ok-enter.ensures.deck c.in_ok-enter.ensures.few c.in_ok-body.ensures.ok.runs c.in_ok-body.ensures.kept.few new c.in_ok-push_body.ensures.pushed c.len-number.ensures.count refl)
