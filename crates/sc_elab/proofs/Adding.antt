@@ -2,14 +2,16 @@
 use Rattle.std.proofs.Common.{◌≡◌, ◌≢◌, ℕ, zero, suc, ◌+◌, ◌<◌, ◌≤◌, Bool, true, false, cond, List, [], ◌∷◌, ◌++◌, length, get_or, Option, Some, None, refl, sym, ap, ◌∙◌, subst, arith, length-append}
 use Rattle.std.specs.Prelude.{slice_get, slice_index, All}
 use Rattle.std.specs.List.{AllByRecursion}
-use Rattle.std.specs.Option.{option_map}
+use Rattle.std.specs.Option.{option_map, unwrap_or}
 use Rattle.std.proofs.lemmas.List.Elements.{All-from_recursion}
+use Rattle.std.proofs.lemmas.Option.{unwrap_or-slice_get}
 use Rattle.sc_deck.specs.declared.key.Key.{Key}
 use Rattle.sc_deck.specs.Keys.{same_key}
 use Rattle.sc_deck.specs.KeyLaws.{same_key_decides}
 use Rattle.sc_deck.specs.Modules.{Module, key_of}
 use Rattle.sc_deck.specs.Decks.{IsDeck, IsNewKey}
 use Rattle.sc_deck.proofs.CallLaws.{key_number}
+use Rattle.sc_deck.proofs.ListLemmas.{slice_get_there}
 use Rattle.sc_meaning.specs.Instances.{number_in_deck}
 use Rattle.sc_meaning.specs.Kept.{In}
 use Rattle.sc_meaning.proofs.Known.{stands}
@@ -104,3 +106,11 @@ key_there deck key there = let s = stands deck key there in ap (option_map key_o
 pub key_pushed : (deck : List Module) (m : Module) → option_map key_of (slice_get (deck ++ m ∷ []) (length deck)) ≡ Some m.key
 key_pushed [] m = refl
 key_pushed (n ∷ deck) m = key_pushed deck m
+
+-- ---- numbers of a list
+
+pub index_got : (ns : List ℕ) (i n : ℕ) → slice_get ns i ≡ Some n → slice_index ns i ≡ n
+index_got ns i n e = sym (unwrap_or-slice_get ns i 0) ∙ ap (λ (o : Option ℕ). unwrap_or o 0) e
+
+pub got_below : {X : Type 0} (xs : List X) (i : ℕ) → i < length xs → slice_get xs i ≡ None → ⊥
+got_below xs i below none = let there = slice_get_there xs i below in let impossible : None ≡ Some there.0 = sym none ∙ there.1 in cc
