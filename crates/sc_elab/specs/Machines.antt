@@ -10,6 +10,7 @@ use Rattle.sc_meaning.specs.declared.fault.ElabFault.{ElabFault}
 use Rattle.sc_meaning.specs.declared.fault.ElabFault.TheVariants.{TooManyInstances}
 use Rattle.sc_elab.specs.declared.frame.Frame.{Frame}
 use Rattle.sc_elab.specs.declared.machine.Machine.{Machine}
+use Rattle.sc_elab.specs.Folding.{written, written_modules}
 use Rattle.sc_elab.specs.Frames.{view, made}
 use Rattle.sc_meaning.specs.Instances.{with_key}
 use Rattle.sc_meaning.specs.Local.{Half, Made, with_half, ran}
@@ -23,7 +24,7 @@ pub record IsEntered (keys : List Key) (key : Key) (fault : ElabFault) : Type 0 
 
 -- what has been made, while these enterings are open
 abbrev pub kept : List Half → Machine → Made
-kept opened m = record { opened = opened; deck = m.deck; keys = m.entered.keys }
+kept opened m = record { opened = opened; deck = written_modules m.deck; keys = m.entered.keys }
 
 -- a call was made: its caller gets a call item of this number
 abbrev pub IsCalled : Choice → (List Wire → Numbers → Outcome Numbers) → Machine → ℕ → Machine → Type 0
@@ -38,7 +39,7 @@ IsRefusedCall choice call m fault =
 
 -- what is made around a body, its calls included
 abbrev pub around : List Wire → List Half → Machine → Frame → Made
-around ws rest m f = made ws f.body.items rest m.deck m.entered.keys
+around ws rest m f = made ws (written f.body.items) rest (written_modules m.deck) m.entered.keys
 
 -- the code does what a part with calls does
 abbrev pub RunsOn : Choice → Outcome State → Machine → Frame → Machine → Frame → Type 0
@@ -52,8 +53,8 @@ IsRefusedOn choice outcome m f fault = (ws : List Wire) (rest : List Half) → r
 -- the body of a key has these items, wherever it is entered
 pub record RunsBody (choice : Choice) (outcome : Outcome Numbers) (m : Machine) (items : List Item) (m' : Machine) : Type 0 where
   pub own : Numbers
-  pub runs : (wires : List Wire) (opened : List Half) → ran choice (made wires [] opened m.deck m.entered.keys) outcome ≡ Ok (own, made wires items opened m'.deck m'.entered.keys)
+  pub runs : (wires : List Wire) (opened : List Half) → ran choice (made wires [] opened (written_modules m.deck) m.entered.keys) outcome ≡ Ok (own, made wires (written items) opened (written_modules m'.deck) m'.entered.keys)
 
 -- it is refused
 abbrev pub IsRefusedBody : Choice → Outcome Numbers → Machine → ElabFault → Type 0
-IsRefusedBody choice outcome m fault = (wires : List Wire) (opened : List Half) → ran choice (made wires [] opened m.deck m.entered.keys) outcome ≡ Err fault
+IsRefusedBody choice outcome m fault = (wires : List Wire) (opened : List Half) → ran choice (made wires [] opened (written_modules m.deck) m.entered.keys) outcome ≡ Err fault
