@@ -13,6 +13,7 @@ pub mod Entering
 pub mod EnteringTyped
 pub mod Executing
 pub mod Finding
+pub mod Folding
 pub mod FunctionLaws
 pub mod GateLaws
 pub mod GateTyping
@@ -29,6 +30,7 @@ pub mod Names
 pub mod PassedTyping
 pub mod Passing
 pub mod PendingLaws
+pub mod PushedGates
 pub mod RoomLaws
 pub mod StartLaws
 pub mod StartTyping

@@ -23,6 +23,7 @@ use Rattle.sc_meaning.specs.declared.choice.Choice.{Choice}
 use Rattle.sc_meaning.specs.declared.fault.ElabFault.{ElabFault}
 use Rattle.sc_meaning.specs.declared.fault.ElabFault.TheVariants.{TooWide, TooManyInstances}
 use Rattle.sc_elab.specs.declared.frame.Frame.{Frame}
+use Rattle.sc_elab.specs.Folding.{written}
 use Rattle.sc_elab.specs.Frames.{view, made, Runs}
 use Rattle.sc_meaning.specs.Local.{Made, make, ran}
 use Rattle.sc_meaning.specs.Outcomes.{Outcome, Done, Stopped, after, then_do, given, leaving}
@@ -138,4 +139,4 @@ ran_leaves P choice m n (Stopped events f) c h e = none_left P (many (make choic
 
 -- what holds of all that a part leaves holds of the frame
 pub runs_leaves : (P : State → Type 0) (choice : Choice) (o : Outcome State) (f g : Frame) → Leaves P o → Runs choice o f g → P (view g)
-runs_leaves P choice o f g h runs = ran_leaves P choice (made [] f.body.items [] [] []) (made [] g.body.items [] [] []) o (view g) h (runs [] [] [] [] refl)
+runs_leaves P choice o f g h runs = ran_leaves P choice (made [] (written f.body.items) [] [] []) (made [] (written g.body.items) [] [] []) o (view g) h (runs [] [] [] [] refl)
