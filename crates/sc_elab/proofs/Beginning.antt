@@ -37,6 +37,7 @@ use Rattle.sc_elab.specs.Callees.{Requests}
 use Rattle.sc_meaning.specs.Definitions.{Definition, Program, definition}
 use Rattle.sc_elab.specs.Beginnings.{Begun}
 use Rattle.sc_elab.specs.Fine.{IsFineAct, AreFineStmts, IfFine, IsFinePart, AreFineParts}
+use Rattle.sc_elab.specs.Folding.{written}
 use Rattle.sc_elab.specs.Frames.{view, made, Advanced, StopsAt}
 use Rattle.sc_elab.specs.Gating.{measure_on, call_on}
 use Rattle.sc_meaning.specs.Local.{ran}
@@ -119,10 +120,10 @@ pub advanced_first : (program : Program) (choice : Choice) (part part' : Callee 
     → ((call : Callee) → part call (view f) ≡ then_do (part' call (view f')) (pending program call ts finish))
     → Advanced program choice part' f' both r g todo' → Advanced program choice part f todo r g todo'
 advanced_first program choice part part' f f' g todo ts both todo' r items more is h call go ws rest deck keys few =
-    (λ i. ran choice (made ws (sym items i) rest deck keys) (then_do (is call i) (pending program call todo go)))
-    ∙ ap (ran choice (made ws f'.body.items rest deck keys)) (then_then (part' call (view f')) (pending program call ts finish) (pending program call todo go))
-    ∙ (λ i. ran choice (made ws f'.body.items rest deck keys) (then_do (part' call (view f')) (λ a. sym (pending_more program call todo ts go a) i)))
-    ∙ (λ i. ran choice (made ws f'.body.items rest deck keys) (then_do (part' call (view f')) (pending program call (sym more i) go)))
+    (λ i. ran choice (made ws (written (sym items i)) rest deck keys) (then_do (is call i) (pending program call todo go)))
+    ∙ ap (ran choice (made ws (written f'.body.items) rest deck keys)) (then_then (part' call (view f')) (pending program call ts finish) (pending program call todo go))
+    ∙ (λ i. ran choice (made ws (written f'.body.items) rest deck keys) (then_do (part' call (view f')) (λ a. sym (pending_more program call todo ts go a) i)))
+    ∙ (λ i. ran choice (made ws (written f'.body.items) rest deck keys) (then_do (part' call (view f')) (pending program call (sym more i) go)))
     ∙ h call go ws rest deck keys few
 
 -- the first part is refused
@@ -130,15 +131,15 @@ pub stops_first : (choice : Choice) (part part' rest : Callee → State → Outc
     → f'.body.items ≡ f.body.items → ((call : Callee) → part call (view f) ≡ then_do (part' call (view f')) (rest call))
     → StopsAt choice part' f' fault → StopsAt choice part f fault
 stops_first choice part part' others f f' fault items is h call ws rest deck keys few =
-    (λ i. ran choice (made ws (sym items i) rest deck keys) (is call i))
-    ∙ ran_stop choice (made ws f'.body.items rest deck keys) (part' call (view f')) fault (others call) (h call ws rest deck keys few)
+    (λ i. ran choice (made ws (written (sym items i)) rest deck keys) (is call i))
+    ∙ ran_stop choice (made ws (written f'.body.items) rest deck keys) (part' call (view f')) fault (others call) (h call ws rest deck keys few)
 
 -- the same of a part that is another
 pub stops_from : (choice : Choice) (part part' : Callee → State → Outcome State) (f f' : Frame) (fault : ElabFault)
     → f'.body.items ≡ f.body.items → ((call : Callee) → part call (view f) ≡ part' call (view f'))
     → StopsAt choice part' f' fault → StopsAt choice part f fault
 stops_from choice part part' f f' fault items is h call ws rest deck keys few =
-    (λ i. ran choice (made ws (sym items i) rest deck keys) (is call i)) ∙ h call ws rest deck keys few
+    (λ i. ran choice (made ws (written (sym items i)) rest deck keys) (is call i)) ∙ h call ws rest deck keys few
 
 -- a part that is a fault
 pub stops_at : (choice : Choice) (part : Callee → State → Outcome State) (f : Frame) (fault : ElabFault)

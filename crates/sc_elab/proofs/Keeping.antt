@@ -22,6 +22,7 @@ use Rattle.sc_elab.specs.declared.todo.Todo.{Todo}
 use Rattle.sc_types.specs.Accepted.{Taken}
 use Rattle.sc_meaning.specs.Arguments.{number_params}
 use Rattle.sc_elab.specs.Beginnings.{Begun}
+use Rattle.sc_elab.specs.Folding.{written}
 use Rattle.sc_elab.specs.Frames.{view, made, Runs}
 use Rattle.sc_meaning.specs.Local.{Made, make, ran}
 use Rattle.sc_meaning.specs.Outcomes.{Outcome, Done, Stopped, after, then_do, given}
@@ -135,5 +136,5 @@ kept_left n k choice m m' (Stopped x f) t h is = absurd (never f (t, m') (few_by
 pub begun_runs : (IsFine : Taken → Type 0) (choice : Choice) (o : Outcome State) (f g : Frame) (todo : List Todo) → Keeps f.steps (length f.numbers) o → Runs choice o f g → Begun IsFine f todo g todo
 begun_runs IsFine choice o f g todo h runs =
     let kept : (g.steps ≡ f.steps) × (length g.numbers ≡ length f.numbers) =
-    kept_left f.steps (length f.numbers) choice (made [] f.body.items [] [] []) (made [] g.body.items [] [] []) o (view g) h (runs [] [] [] [] refl) in
+    kept_left f.steps (length f.numbers) choice (made [] (written f.body.items) [] [] []) (made [] (written g.body.items) [] [] []) o (view g) h (runs [] [] [] [] refl) in
     begun_still IsFine f g todo kept.0 kept.1

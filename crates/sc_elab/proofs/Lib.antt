@@ -13,8 +13,10 @@ pub mod Entering
 pub mod EnteringTyped
 pub mod Executing
 pub mod Finding
+pub mod FoldedDecks
 pub mod Folding
 pub mod FunctionLaws
+pub mod GateCounts
 pub mod GateLaws
 pub mod GateTyping
 pub mod Going
