@@ -1,6 +1,7 @@
 pub mod Adding
 pub mod Agreeing
 pub mod Beginning
+pub mod BodyTyping
 pub mod CallParts
 pub mod Calling
 pub mod CallsFit
