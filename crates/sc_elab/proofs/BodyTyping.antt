@@ -1,6 +1,6 @@
 -- A body stays typed: whatever its last part comes to, the parts that are put in its place are fine where the names are those of the body.
 use Rattle.std.proofs.Common.{◌≡◌, ℕ, zero, suc, List, [], ◌∷◌, ◌++◌, drop, Option, Some, None, Result, Ok, Err, refl, sym, ap, ◌∙◌, subst}
-use Rattle.std.specs.Prelude.{option_map}
+use Rattle.std.specs.Prelude.{option_map, map}
 use Rattle.std.specs.Borrow.{Bor}
 use Rattle.std.specs.Option.{option_copied}
 use Rattle.std.specs.declared.alloc.Global.{Global}
@@ -8,13 +8,15 @@ use Rattle.std.specs.declared.boxed.Box.{Box}
 use Rattle.std.specs.declared.vec.Vec.{Vec}
 use Rattle.sc_base.specs.declared.Class.{Class}
 use Rattle.sc_base.specs.declared.Place.{Place}
+use Rattle.sc_syntax.specs.declared.Decl.{Decl}
 use Rattle.sc_syntax.specs.declared.Expr.{Expr}
+use Rattle.sc_syntax.specs.declared.Init.{Init}
 use Rattle.sc_syntax.specs.declared.Name.{Name}
 use Rattle.sc_syntax.specs.declared.NumSort.{NumSort}
 use Rattle.sc_syntax.specs.declared.SetOp.{SetOp}
 use Rattle.sc_syntax.specs.declared.Stmt.{Stmt}
-use Rattle.sc_syntax.specs.declared.Act.{Act, If, While, For, Block}
-use Rattle.sc_syntax.specs.Alike.{PureExpr, PureNamed, PureAct, PureHeld, pure_expr, pure_act, pure_stmt_list, pure_source}
+use Rattle.sc_syntax.specs.declared.Act.{Act, Wires, Numbers, If, While, For, Block}
+use Rattle.sc_syntax.specs.Alike.{PureExpr, PureNamed, PureAct, PureHeld, pure_expr, pure_decl, pure_init, pure_act, pure_stmt_list, pure_source}
 use Rattle.sc_syntax.proofs.PureRows.{pure_block}
 use Rattle.sc_types.specs.Statements.{named_wants}
 use Rattle.sc_types.specs.Accepted.{Taken, names_after, with_wires as with_wire_names, with_numbers, IsAdvance, IsFine, IsFineHeld, AreFine}
@@ -182,6 +184,12 @@ while_typed t f e b r todo todo' h body_is advance_is more =
     typed_puts t f (h.here ∷ h.outer) (h.here ∷ h.outer) todo (Loop r ∷ []) todo' h.typed more (record { fine = (tt, (body, advance, held)); leaves = refl }) h.others
 
 -- ---- acts of the tree, with their parts as the code holds them
+
+pub wires_act_is : (task : Act) (c : Class) (ds xs : List Decl) → task ≡ Wires c ds → xs ≡ ds → pure_act task ≡ PureAct.wires c (map pure_decl xs)
+wires_act_is task c ds xs is same = ap pure_act is ∙ (λ i. PureAct.wires c (map pure_decl (sym same i)))
+
+pub numbers_act_is : (task : Act) (sort : NumSort) (ds xs : List Init) → task ≡ Numbers sort ds → xs ≡ ds → pure_act task ≡ PureAct.numbers sort (map pure_init xs)
+numbers_act_is task sort ds xs is same = ap pure_act is ∙ (λ i. PureAct.numbers sort (map pure_init (sym same i)))
 
 if_is : (e : Expr) (b : Box Stmt Global) (held : Option (Box Stmt Global)) → pure_act (If e b held) ≡ if_act e b.value (option_map (λ h. h.value) held)
 if_is e b None = refl

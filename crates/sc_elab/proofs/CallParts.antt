@@ -6,12 +6,13 @@ use Rattle.sc_gate.specs.Gates.{class_of, AreDistinct}
 use Rattle.sc_gate.specs.Numbers.{both, AreThere}
 use Rattle.sc_deck.specs.Bodies.{wires_of}
 use Rattle.sc_deck.specs.Items.{GateFits}
-use Rattle.sc_syntax.specs.declared.Act.{Call}
+use Rattle.sc_syntax.specs.declared.Act.{Measure, Call}
 use Rattle.sc_syntax.specs.declared.Call.{Call as CallOf}
 use Rattle.sc_syntax.specs.declared.Callee.{Callee as Called}
 use Rattle.sc_syntax.specs.declared.Callee.TheVariants as called
 use Rattle.sc_syntax.specs.declared.Expr.{Expr}
-use Rattle.sc_syntax.specs.Alike.{PureAct, pure_expr, pure_act, pure_source}
+use Rattle.sc_syntax.specs.declared.Measure.{Measure as MeasureOf}
+use Rattle.sc_syntax.specs.Alike.{PureAct, pure_expr, pure_operand, pure_act, pure_source}
 use Rattle.sc_types.specs.Statements.{named_wants}
 use Rattle.sc_types.specs.Accepted.{IsFine, IsAccepted}
 use Rattle.sc_types.specs.Typing.{TypedSource}
@@ -28,12 +29,12 @@ use Rattle.sc_elab.specs.Gating.{gate_on_args, call_on}
 use Rattle.sc_meaning.specs.Outcomes.{Outcome, Done, Stopped}
 use Rattle.sc_elab.specs.Pending.{asked}
 use Rattle.sc_meaning.specs.Programs.{program_of}
-use Rattle.sc_meaning.specs.Run.{Callee, call_named}
+use Rattle.sc_meaning.specs.Run.{Callee, measured, call_named}
 use Rattle.sc_meaning.specs.States.{State}
 use Rattle.sc_elab.specs.Typings.{IsTypedAct, IsTypedCall}
 use Rattle.sc_elab.proofs.Beginning.{stops_at, asked_named, refused_named}
 use Rattle.sc_elab.proofs.EnteringTyped.{Entering, entered_typed}
-use Rattle.sc_elab.proofs.GateTyping.{called_typed}
+use Rattle.sc_elab.proofs.GateTyping.{called_typed, measured_typed}
 use Rattle.sc_elab.proofs.Going.{runs_none, runs_from, refused_from}
 use Rattle.sc_elab.proofs.PendingLaws.{advanced_runs, advanced_call}
 
@@ -93,6 +94,11 @@ gate_fits t f c g xs is same h =
     (let fine : IsFine (named_wants (pure_source t.source)) h.outer h.here (PureAct.call (called.Gate g) c.place (map pure_expr xs)) =
     subst (IsFine (named_wants (pure_source t.source)) h.outer h.here) (λ i. PureAct.call (is i) c.place (map pure_expr (sym same i))) h.fine in
     fine)
+
+-- and that of a measurement
+pub measure_fits : (t : TypedSource) (f : Frame) (m : MeasureOf) (todo : List Todo) → IsTypedAct t f (pure_act (Measure m)) todo
+    → IfOk (measured (view f) m.gate (pure_operand m.into) (pure_operand m.from)) (GateFits (wires_of f.body))
+measure_fits t f m todo h = measured_typed (view f) (h.here ∷ h.outer) m.gate (pure_operand m.into) (pure_operand m.from) h.typed h.fine.0 h.fine.1 h.fine.2
 
 -- the callee of a definition's call takes it
 pub named_typed : (t : TypedSource) (f : Frame) (c : CallOf) (name : List ℕ) (d : Definition) (xs : List Expr) (r : Request) → IsAccepted t → both (wires_of f.body) ≤ 65536

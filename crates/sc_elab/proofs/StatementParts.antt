@@ -1,5 +1,5 @@
 -- Statements as parts of a body: what they come to, what is put on the list for them, and how many steps and scopes are left.
-use Rattle.std.proofs.Common.{◌≡◌, ℕ, zero, suc, ◌+◌, ◌-◌, ◌*◌, ◌<◌, ◌≤◌, Bool, true, false, List, [], ◌∷◌, ◌++◌, length, Option, Some, None, Result, Ok, Err, refl, sym, ap, ◌∙◌, subst, arith, append_assoc, length-append, length-drop}
+use Rattle.std.proofs.Common.{◌≡◌, ℕ, zero, suc, ◌+◌, ◌-◌, ◌*◌, ◌^◌, ◌<◌, ◌≤◌, Bool, true, false, List, [], ◌∷◌, ◌++◌, length, Option, Some, None, Result, Ok, Err, refl, sym, ap, ◌∙◌, subst, arith, append_assoc, length-append, length-drop}
 use Rattle.std.specs.Prelude.{OnOk}
 use Rattle.std.specs.Borrow.{Bor}
 use Rattle.std.specs.Option.{option_copied}
@@ -11,6 +11,7 @@ use Rattle.sc_syntax.specs.declared.Expr.{Expr}
 use Rattle.sc_syntax.specs.declared.Stmt.{Stmt}
 use Rattle.sc_syntax.specs.Alike.{PureExpr, pure_expr, pure_act, pure_stmt_list}
 use Rattle.sc_deck.specs.Bodies.{Contents}
+use Rattle.sc_deck.specs.Turns.{last_turns}
 use Rattle.sc_value.specs.Scopes.{Scopes}
 use Rattle.sc_meaning.specs.declared.choice.Choice.{Choice}
 use Rattle.sc_meaning.specs.declared.fault.ElabFault.{ElabFault}
@@ -22,6 +23,7 @@ use Rattle.sc_elab.specs.declared.todo.Rounds.{Rounds}
 use Rattle.sc_elab.specs.declared.todo.Request.{Request}
 use Rattle.sc_elab.specs.Beginnings.{Begun}
 use Rattle.sc_meaning.specs.Definitions.{Program}
+use Rattle.sc_elab.specs.Folding.{HasRoom}
 use Rattle.sc_elab.specs.Frames.{view, Runs, IsRefused, Advanced, StopsAt}
 use Rattle.sc_meaning.specs.Outcomes.{Outcome, Done, Stopped}
 use Rattle.sc_elab.specs.Pending.{looped, if_on, for_on, block_on, doing, pending, leaves, to_do, after_round}
@@ -178,6 +180,13 @@ stmt_falls f g h at u todo todo' steps b =
     let few : length todo' ≤ length todo + 3 = b.few in
     omega arith
 
+-- a step makes room for the gates that stand for one
+pub step_room : (f g : Frame) (at : Place) (u : Unit {0}) → Steps f at (Ok u) g → HasRoom f → last_turns g.body.items + 64 < 2 ^ 64
+step_room f g at u steps room =
+    let down : f.steps ≡ suc g.steps = (step_down f g at u steps).0 in
+    let same : last_turns g.body.items ≡ last_turns f.body.items = ap (λ (b : Contents). last_turns b.items) (stepped_body f g at u steps) in
+    omega arith
+
 -- ---- statements one after another
 
 pub rest_advanced : (program : Program) (choice : Choice) (xs : Bor (List Stmt)) (first : Bor Stmt) (rest : Bor (List Stmt)) (f g : Frame) (todo mid todo' : List Todo) (r : Option Request)
@@ -297,6 +306,13 @@ body_falls r f g h todo mid todo' v more falls =
     let same : g.steps ≡ f.steps = ap (λ (s : State). s.steps) v in
     let few : length (after_round r) ≤ 3 = (few_round r).0 in
     let a : length mid ≡ length todo + length (after_round r) = length_more todo mid (after_round r) more in
+    omega arith
+
+-- in another scope there is as much room
+pub scope_room : (f g : Frame) → view g ≡ with_scope (view f) → g.body ≡ f.body → HasRoom f → HasRoom g
+scope_room f g v body room =
+    let steps : g.steps ≡ f.steps = ap (λ (s : State). s.steps) v in
+    let same : last_turns g.body.items ≡ last_turns f.body.items = ap (λ (b : Contents). last_turns b.items) body in
     omega arith
 
 -- ---- the end of a scope
