@@ -1,6 +1,7 @@
 pub mod Adding
 pub mod Agreeing
 pub mod Beginning
+pub mod BodyTyping
 pub mod CallParts
 pub mod Calling
 pub mod CallsFit
@@ -32,6 +33,7 @@ pub mod Names
 pub mod PassedTyping
 pub mod Passing
 pub mod PendingLaws
+pub mod PushedGates
 pub mod RoomLaws
 pub mod StartLaws
 pub mod StartTyping

