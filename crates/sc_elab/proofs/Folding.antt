@@ -1,5 +1,5 @@
 -- Items that are folded as they are pushed: what they stand for, what they keep, and how many turns the last one has.
-use Rattle.std.proofs.Common.{◌≡◌, ℕ, zero, suc, ◌+◌, ◌-◌, ◌*◌, ◌≤◌, ◌<◌, Bool, true, false, List, [], ◌∷◌, ◌++◌, map, length, replicate, slice_get, Option, Some, None, refl, sym, ap, ◌∙◌, subst, arith, true≢false, append-nil, append_assoc}
+use Rattle.std.proofs.Common.{◌≡◌, ℕ, zero, suc, ◌+◌, ◌-◌, ◌*◌, ◌≤◌, ◌<◌, Bool, true, false, List, [], ◌∷◌, ◌++◌, map, length, replicate, slice_get, Option, Some, None, refl, sym, ap, ◌∙◌, subst, arith, true≢false, append-nil, append_assoc, length-append}
 use Rattle.std.specs.Prelude.{fold, if◌then◌else◌}
 use Rattle.std.specs.Option.{option_map_or}
 use Rattle.std.proofs.lemmas.Grind.{flat_map-append}
@@ -161,5 +161,8 @@ turns_gates items (g ∷ gs) =
     turns_gates (with_folded items (item.Gate g)) gs in
     omega arith
 
-pub turns_fresh : (items : List Item) (c : Class) (n : ℕ) → last_turns (items ++ item.Fresh c n ∷ []) ≤ last_turns items + 1
-turns_fresh items c n = subst (λ (l : List Item). last_turns l ≤ last_turns items + 1) (fresh_behind items c n) (turns_more items (item.Fresh c n) refl)
+-- an item that is put behind the others is the last one
+pub last_pushed : (items : List Item) (j : Item) → last_turns (items ++ j ∷ []) ≡ turns_of j
+last_pushed [] j = refl
+last_pushed (i ∷ items) j =
+    last_behind i (items ++ j ∷ []) (let more : length (items ++ j ∷ []) ≡ length items + 1 = length-append items (j ∷ []) in omega arith) ∙ last_pushed items j
