@@ -19,7 +19,6 @@ use Rattle.sc_meaning.specs.declared.fault.ElabFault.{ElabFault}
 use Rattle.sc_meaning.specs.declared.fault.ElabFault.TheVariants.{TooWide, BadSize}
 use Rattle.sc_elab.specs.declared.frame.Frame.{Frame}
 use Rattle.sc_elab.specs.declared.todo.Todo.{Todo}
-use Rattle.sc_types.specs.Accepted.{Taken}
 use Rattle.sc_meaning.specs.Arguments.{number_params}
 use Rattle.sc_elab.specs.Beginnings.{Begun}
 use Rattle.sc_elab.specs.Folding.{written}
@@ -133,8 +132,8 @@ kept_left n k choice m m' (Done x a) t h is =
 kept_left n k choice m m' (Stopped x f) t h is = absurd (never f (t, m') (few_by (many (make choice x m)) (Err f) (t, m') is).1)
 
 -- a part that is done, and puts nothing on the list
-pub begun_runs : (IsFine : Taken → Type 0) (choice : Choice) (o : Outcome State) (f g : Frame) (todo : List Todo) → Keeps f.steps (length f.numbers) o → Runs choice o f g → Begun IsFine f todo g todo
-begun_runs IsFine choice o f g todo h runs =
+pub begun_runs : (choice : Choice) (o : Outcome State) (f g : Frame) (todo : List Todo) → Keeps f.steps (length f.numbers) o → Runs choice o f g → Begun f todo g todo
+begun_runs choice o f g todo h runs =
     let kept : (g.steps ≡ f.steps) × (length g.numbers ≡ length f.numbers) =
     kept_left f.steps (length f.numbers) choice (made [] (written f.body.items) [] [] []) (made [] (written g.body.items) [] [] []) o (view g) h (runs [] [] [] [] refl) in
-    begun_still IsFine f g todo kept.0 kept.1
+    begun_still f g todo kept.0 kept.1

@@ -1,9 +1,9 @@
 pub mod Adding
 pub mod Agreeing
 pub mod Beginning
+pub mod BodyTyping
 pub mod CallParts
 pub mod Calling
-pub mod CallsFit
 pub mod ChosenFits
 pub mod DeclareLaws
 pub mod Declaring
@@ -33,10 +33,12 @@ pub mod Names
 pub mod PassedTyping
 pub mod Passing
 pub mod PendingLaws
+pub mod PushedGates
 pub mod RoomLaws
 pub mod StartLaws
 pub mod StartTyping
 pub mod StatementParts
 pub mod Steps
 pub mod TodoTyping
+pub mod TurnRoom
 pub mod TypedParts

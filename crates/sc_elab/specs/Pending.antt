@@ -21,6 +21,20 @@ abbrev pub held_by : Option Stmt → PureHeld
 held_by None = PureHeld.absent
 held_by (Some s) = PureHeld.held s.place (pure_act s.act)
 
+-- ---- statements of the tree, with their parts as the code holds them
+
+abbrev pub if_act : Expr → Stmt → Option Stmt → PureAct
+if_act test body other = PureAct.if_else (pure_expr test) body.place (pure_act body.act) (held_by other)
+
+abbrev pub for_act : Option Stmt → Rounds → PureAct
+for_act start r =
+    PureAct.for_loop (held_by start) (option_map pure_expr (option_copied r.test)) (held_by (option_copied r.advance)) r.body.now.place (pure_act r.body.now.act)
+
+abbrev pub block_act : List Stmt → PureAct
+block_act stmts = PureAct.block (pure_stmt_list stmts)
+
+-- ---- what they do
+
 -- a round of a loop without its test: the body in a scope of its own, and then the advance
 abbrev pub round_of : Program → Callee → Stmt → PureHeld → State → Outcome State
 round_of program call body advance s =
