@@ -1,8 +1,7 @@
 //! Gates of a body.
-ghost use Rattle.std.specs.Prelude.{◌≡◌, ◌≢◌, ◌↔◌, ◌+◌, ◌<◌, ◌^◌, fold, length, map, option_map, IsTrue, Ok, Err, OnOk, IfOk, IfErr};
+ghost use Rattle.std.specs.Prelude.{◌≡◌, ◌≢◌, ◌+◌, ◌<◌, ◌^◌, fold, length, map, option_map, Ok, Err, OnOk, IfOk, IfErr};
 ghost use Rattle.std.specs.List.{AllByRecursion};
 ghost use Rattle.std.specs.Option.{option_copied};
-ghost use Rattle.sc_gate.specs.Numbers.{IsThere};
 ghost use Rattle.sc_syntax.specs.Alike.{pure_expr, pure_operand};
 ghost use Rattle.sc_deck.specs.Bodies.{wires_of};
 ghost use Rattle.sc_deck.specs.Items.{GateFits};
