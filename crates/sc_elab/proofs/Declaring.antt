@@ -16,10 +16,12 @@ use Rattle.sc_meaning.specs.declared.choice.Choice.{Choice}
 use Rattle.sc_meaning.specs.declared.fault.ElabFault.{ElabFault}
 use Rattle.sc_meaning.specs.declared.fault.ElabFault.TheVariants.{TooWide, BadSize}
 use Rattle.sc_elab.specs.declared.frame.Frame.{Frame}
+use Rattle.sc_elab.specs.Folding.{written}
 use Rattle.sc_elab.specs.Frames.{view, names_of, Runs, IsRefused}
 use Rattle.sc_meaning.specs.Outcomes.{Outcome, Done, Stopped}
 use Rattle.sc_meaning.specs.Run.{make_wires}
 use Rattle.sc_meaning.specs.States.{State, with_wires, with_fresh}
+use Rattle.sc_elab.proofs.Folding.{written_more}
 use Rattle.sc_elab.proofs.Going.{runs_fresh, runs_from, refused_from, refused_at}
 
 pub both_more : (c : Class) (n : ℕ) (numbers : Numbers) → both (with_more c n numbers) ≡ both numbers + n
@@ -68,7 +70,7 @@ pub make_runs : (choice : Choice) (c : Class) (name : Name) (n : ℕ) (f g : Fra
 make_runs choice c name n f g some room body numbers steps names =
     runs_from choice (make_wires c name (pos n) (view f)) (Done (Fresh c n ∷ []) (with_fresh c name.text n (view f))) f g
     (make_is c name n (view f) some room)
-    (runs_fresh choice c n (with_fresh c name.text n (view f)) f g (ap (λ (b : Contents). b.items) body) (view_more c name.text n f g body numbers steps names))
+    (runs_fresh choice c n (with_fresh c name.text n (view f)) f g (ap (λ (b : Contents). written b.items) body ∙ written_more f.body.items (item.Fresh c n) refl) (view_more c name.text n f g body numbers steps names))
 
 pub make_wide : (choice : Choice) (c : Class) (name : Name) (n : ℕ) (f : Frame) → 1 ≤ n → 65536 < both (wires_of f.body) + n
     → IsRefused choice (make_wires c name (pos n) (view f)) f (TooWide name.place)

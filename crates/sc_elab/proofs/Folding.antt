@@ -1,6 +1,7 @@
 -- Items that are folded as they are pushed: what they stand for, what they keep, and how many turns the last one has.
-use Rattle.std.proofs.Common.{◌≡◌, ℕ, zero, suc, ◌+◌, ◌-◌, ◌*◌, ◌≤◌, ◌<◌, Bool, true, false, List, [], ◌∷◌, ◌++◌, map, length, replicate, slice_get, Option, Some, None, refl, sym, ap, ◌∙◌, subst, arith, true≢false, append-nil, append_assoc}
+use Rattle.std.proofs.Common.{◌≡◌, ℕ, zero, suc, ◌+◌, ◌-◌, ◌*◌, ◌≤◌, ◌<◌, Bool, true, false, List, [], ◌∷◌, ◌++◌, map, length, replicate, slice_get, Option, Some, None, refl, sym, ap, ◌∙◌, subst, arith, true≢false, append-nil, append_assoc, length-append}
 use Rattle.std.specs.Prelude.{fold, if◌then◌else◌}
+use Rattle.std.specs.Option.{option_map_or}
 use Rattle.std.proofs.lemmas.Grind.{flat_map-append}
 use Rattle.sc_base.specs.declared.Class.{Class}
 use Rattle.sc_gate.specs.declared.gate.Gate.{Gate}
@@ -134,14 +135,19 @@ joined_last i (item.Calls d vs m) none = absurd (true≢false none)
 
 last_behind : (i : Item) (items : List Item) → 0 < length items → last_turns (i ∷ items) ≡ last_turns items
 last_behind i [] some = absurd (omega arith)
-last_behind i (k ∷ items) some = refl
+last_behind i (k ∷ items) some =
+    let above : length (i ∷ k ∷ items) - 1 ≡ suc (length items) = omega arith in
+    let below : length (k ∷ items) - 1 ≡ length items = omega arith in
+    ap (λ (n : ℕ). option_map_or turns_of (slice_get (i ∷ k ∷ items) n) 0) above ∙ sym (ap (λ (n : ℕ). option_map_or turns_of (slice_get (k ∷ items) n) 0) below)
 
 pushed_last : (items : List Item) (j : Item) → has_turns j ≡ false → Last (last_turns items + 1) (with_folded items j)
 pushed_last [] j none = record { some = omega arith; turns = (let one : turns_of j ≤ 1 = one_turn j none in omega arith) }
 pushed_last (i ∷ []) j none = joined_last i j none
 pushed_last (i ∷ k ∷ items) j none =
     let more : Last (last_turns (k ∷ items) + 1) (with_folded (k ∷ items) j) = pushed_last (k ∷ items) j none in
-    record { some = omega arith; turns = subst (λ (n : ℕ). n ≤ last_turns (k ∷ items) + 1) (sym (last_behind i (with_folded (k ∷ items) j) more.some)) more.turns }
+    let before : last_turns (i ∷ k ∷ items) ≡ last_turns (k ∷ items) = last_behind i (k ∷ items) (omega arith) in
+    let after : last_turns (i ∷ with_folded (k ∷ items) j) ≡ last_turns (with_folded (k ∷ items) j) = last_behind i (with_folded (k ∷ items) j) more.some in
+    record { some = omega arith; turns = omega (arith, before, after, more.turns) }
 
 -- an item that is folded in gives the last one at most one turn more
 pub turns_more : (items : List Item) (j : Item) → has_turns j ≡ false → last_turns (with_folded items j) ≤ last_turns items + 1
@@ -155,5 +161,8 @@ turns_gates items (g ∷ gs) =
     turns_gates (with_folded items (item.Gate g)) gs in
     omega arith
 
-pub turns_fresh : (items : List Item) (c : Class) (n : ℕ) → last_turns (items ++ item.Fresh c n ∷ []) ≤ last_turns items + 1
-turns_fresh items c n = subst (λ (l : List Item). last_turns l ≤ last_turns items + 1) (fresh_behind items c n) (turns_more items (item.Fresh c n) refl)
+-- an item that is put behind the others is the last one
+pub last_pushed : (items : List Item) (j : Item) → last_turns (items ++ j ∷ []) ≡ turns_of j
+last_pushed [] j = refl
+last_pushed (i ∷ items) j =
+    last_behind i (items ++ j ∷ []) (let more : length (items ++ j ∷ []) ≡ length items + 1 = length-append items (j ∷ []) in omega arith) ∙ last_pushed items j

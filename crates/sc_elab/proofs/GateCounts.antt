@@ -190,7 +190,7 @@ all_few words n (b ∷ bs) e =
 
 length_copies : (rs : List ℕ) (o : ℕ) → length (copies rs o) ≡ length rs
 length_copies [] o = refl
-length_copies (r ∷ rs) o = ap suc (length_copies rs o)
+length_copies (r ∷ rs) o = ap suc (length_copies rs (suc o))
 
 few_scratch : (n : ℕ) → length (scratch_items n) ≤ 1
 few_scratch zero = omega arith

@@ -40,4 +40,5 @@ pub mod StartTyping
 pub mod StatementParts
 pub mod Steps
 pub mod TodoTyping
+pub mod TurnRoom
 pub mod TypedParts

@@ -17,8 +17,9 @@ use Rattle.sc_deck.proofs.BodyLemmas.{after_items-push}
 use Rattle.sc_deck.proofs.FoldLaws.{with_folded-stands}
 use Rattle.sc_elab.specs.declared.frame.Frame.{Frame}
 use Rattle.sc_elab.specs.Beginnings.{AddsNoCall}
+use Rattle.sc_elab.specs.Folding.{IsFolded}
 use Rattle.sc_elab.specs.Frames.{view}
-use Rattle.sc_elab.proofs.Folding.{turns_gates}
+use Rattle.sc_elab.proofs.Folding.{folds_gates, folds_fresh, turns_gates}
 
 -- ---- gates that are folded in
 
@@ -78,19 +79,22 @@ pub adds_none : (body new : Contents) → new ≡ body → AddsNoCall body new
 adds_none body new same = record {
   params = ap (λ (b : Contents). b.params) same;
   calls = λ deck h. subst (λ (b : Contents). CallsFit deck b.items) (sym same) h;
+  folded = λ h. subst (λ (b : Contents). IsFolded b.items) (sym same) h;
 }
 
 pub adds_both : (a b c : Contents) → AddsNoCall a b → AddsNoCall b c → AddsNoCall a c
-adds_both a b c x y = record { params = y.params ∙ x.params; calls = λ deck h. y.calls deck (x.calls deck h) }
+adds_both a b c x y = record { params = y.params ∙ x.params; calls = λ deck h. y.calls deck (x.calls deck h); folded = λ h. y.folded (x.folded h) }
 
 pub adds_fresh : (body new : Contents) (c : Class) (n : ℕ) → new ≡ with_item body (item.Fresh c n) → AddsNoCall body new
 adds_fresh body new c n same = record {
   params = ap (λ (b : Contents). b.params) same;
   calls = λ deck h. subst (λ (b : Contents). CallsFit deck b.items) (sym same) (calls_behind deck body.items (item.Fresh c n) tt h);
+  folded = λ h. subst (λ (b : Contents). IsFolded b.items) (sym same) (folds_fresh body.items c n h).is_folded;
 }
 
 pub adds_gates : (body new : Contents) (gs : List Gate) → new ≡ record body { items = pushed body.items gs } → AddsNoCall body new
 adds_gates body new gs same = record {
   params = ap (λ (b : Contents). b.params) same;
   calls = λ deck h. subst (λ (b : Contents). CallsFit deck b.items) (sym same) (calls_pushed deck body.items gs h);
+  folded = λ h. subst (λ (b : Contents). IsFolded b.items) (sym same) (folds_gates body.items gs h).is_folded;
 }

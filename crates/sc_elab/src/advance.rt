@@ -11,7 +11,7 @@ ghost use Rattle.sc_deck.specs.Modules.{Module};
 ghost use Rattle.sc_deck.specs.Turns.{last_turns};
 ghost use Rattle.sc_types.specs.Accepted.{IsAccepted};
 ghost use Rattle.sc_elab.specs.Beginnings.{Begun, AddsNoCall};
-ghost use Rattle.sc_elab.specs.Folding.{HasRoom};
+ghost use Rattle.sc_elab.specs.Folding.{IsFolded, HasRoom, HasRoomFor};
 ghost use Rattle.sc_elab.specs.Frames.{view, Runs, IsRefused, Advanced, StopsAt};
 ghost use Rattle.sc_elab.specs.Pending.{doing, looped, leaves, if_act, for_act, block_act, if_on, for_on, block_on, to_do, after_round};
 ghost use Rattle.sc_elab.specs.Typings.{IsTypedBody, IsTypedAct, IsTypedCall};
@@ -94,10 +94,12 @@ fn is_narrow(body: &Body)
 fn apply(choice: Choice, frame: &mut Frame, gate: Gate) -> Result<(), Memory>
     requires fits { GateFits (wires_of frame.old.body) gate }
     requires turns { last_turns frame.old.body.items + 64 < 2 ^ 64 }
+    requires folded { IsFolded frame.old.body.items }
     ensures runs { OnOk result (Runs choice (apply (view frame.old) gate) frame.old frame.new) }
     ensures others { frame.new ≡ record frame.old { body = frame.new.body } }
     ensures view { OnOk result (view frame.new ≡ view frame.old) }
     ensures adds { OnOk result (AddsNoCall frame.old.body frame.new.body) }
+    ensures turns { OnOk result (last_turns frame.new.body.items < last_turns frame.old.body.items + 64) }
 {
     push_chosen(&mut frame.body, choice, gate)
 }
@@ -106,11 +108,13 @@ fn apply(choice: Choice, frame: &mut Frame, gate: Gate) -> Result<(), Memory>
 fn measure(given: Given<'_>, frame: &mut Frame, task: &Measure) -> Result<(), ElabFault>
     requires fits { IfOk (measured (view frame.old) task.now.gate (pure_operand task.now.into) (pure_operand task.now.from)) (GateFits (wires_of frame.old.body)) }
     requires turns { last_turns frame.old.body.items + 64 < 2 ^ 64 }
+    requires folded { IsFolded frame.old.body.items }
     ensures ok { OnOk result (Runs given.entry.choice (measure_on task.now (view frame.old)) frame.old frame.new) }
     ensures err { IfErr result (λ f. f ≢ ElabFault.Memory → IsRefused given.entry.choice (measure_on task.now (view frame.old)) frame.old f) }
     ensures others { frame.new ≡ record frame.old { body = frame.new.body } }
     ensures view { OnOk result (view frame.new ≡ view frame.old) }
     ensures adds { OnOk result (AddsNoCall frame.old.body frame.new.body) }
+    ensures turns { OnOk result (last_turns frame.new.body.items < last_turns frame.old.body.items + 64) }
 {
     let gate = measured(given.alloc, frame, task)?;
     apply(given.choice, frame, gate)?;
@@ -126,11 +130,13 @@ fn call_gate(
 ) -> Result<(), ElabFault>
     requires fits { IfOk (called_gate (view frame.old) gate (map pure_expr args.now)) (GateFits (wires_of frame.old.body)) }
     requires turns { last_turns frame.old.body.items + 64 < 2 ^ 64 }
+    requires folded { IsFolded frame.old.body.items }
     ensures ok { OnOk result (Runs given.entry.choice (gate_on_args gate (map pure_expr args.now) (view frame.old)) frame.old frame.new) }
     ensures err { IfErr result (λ f. f ≢ ElabFault.Memory → IsRefused given.entry.choice (gate_on_args gate (map pure_expr args.now) (view frame.old)) frame.old f) }
     ensures others { frame.new ≡ record frame.old { body = frame.new.body } }
     ensures view { OnOk result (view frame.new ≡ view frame.old) }
     ensures adds { OnOk result (AddsNoCall frame.old.body frame.new.body) }
+    ensures turns { OnOk result (last_turns frame.new.body.items < last_turns frame.old.body.items + 64) }
 {
     let gate = called_gate(given.alloc, frame, gate, args)?;
     apply(given.choice, frame, gate)?;
@@ -146,12 +152,14 @@ fn begin_call<'a>(
     requires accepted { IsAccepted given.checked.now }
     requires typed { IsTypedAct given.checked.now frame.old (pure_act (Act.Call call.now)) [] }
     requires turns { last_turns frame.old.body.items + 64 < 2 ^ 64 }
+    requires folded { IsFolded frame.old.body.items }
     ensures ok { IfOk result (λ r. (todo : List Todo) → Advanced (program_of given.entry.checked.now) given.entry.choice (λ c. call_on (program_of given.entry.checked.now) c call.now.callee (map pure_expr call.now.args)) frame.old todo r frame.new todo) }
     ensures err { IfErr result (λ f. f ≢ ElabFault.Memory → StopsAt given.entry.choice (λ c. call_on (program_of given.entry.checked.now) c call.now.callee (map pure_expr call.now.args)) frame.old f) }
     ensures others { frame.new ≡ record frame.old { body = frame.new.body } }
     ensures call { IfOk result (λ r. IfSome r (λ q. IsTypedCall given.entry.checked.now frame.new q)) }
     ensures view { OnOk result (view frame.new ≡ view frame.old) }
     ensures adds { OnOk result (AddsNoCall frame.old.body frame.new.body) }
+    ensures turns { OnOk result (last_turns frame.new.body.items < last_turns frame.old.body.items + 64) }
 {
     let args = call.args.as_slice();
     match &call.callee {
@@ -267,12 +275,14 @@ fn begin<'a>(
     requires accepted { IsAccepted given.checked.now }
     requires typed { IsTypedAct given.checked.now frame.old (pure_act task.now) todo.old.items }
     requires turns { last_turns frame.old.body.items + 64 < 2 ^ 64 }
+    requires folded { IsFolded frame.old.body.items }
     ensures ok { IfOk result (λ r. Advanced (program_of given.entry.checked.now) given.entry.choice (λ c. act (program_of given.entry.checked.now) c at (pure_act task.now)) frame.old todo.old.items r frame.new todo.new.items) }
     ensures err { IfErr result (λ f. f ≢ ElabFault.Memory → StopsAt given.entry.choice (λ c. act (program_of given.entry.checked.now) c at (pure_act task.now)) frame.old f) }
     ensures begun { OnOk result (Begun frame.old todo.old.items frame.new todo.new.items) }
     ensures typed { OnOk result (IsTypedBody given.entry.checked.now frame.new todo.new.items) }
     ensures call { IfOk result (λ r. IfSome r (λ q. IsTypedCall given.entry.checked.now frame.new q)) }
     ensures adds { OnOk result (AddsNoCall frame.old.body frame.new.body) }
+    ensures turns { OnOk result (last_turns frame.new.body.items < last_turns frame.old.body.items + 64) }
 {
     match task {
         Act::Wires(class, decls) => {
@@ -334,6 +344,7 @@ fn begin_stmt<'a>(
     requires accepted { IsAccepted given.checked.now }
     requires typed { IsTypedBody given.checked.now frame.old (todo.old.items ++ Todo.Do stmt ∷ []) }
     requires turns { HasRoom frame.old }
+    requires folded { IsFolded frame.old.body.items }
     ensures ok { IfOk result (λ r. Advanced (program_of given.entry.checked.now) given.entry.choice (λ c. doing (program_of given.entry.checked.now) c (Todo.Do stmt.entry)) frame.old todo.old.items r frame.new todo.new.items) }
     ensures err { IfErr result (λ f. f ≢ ElabFault.Memory → StopsAt given.entry.choice (λ c. doing (program_of given.entry.checked.now) c (Todo.Do stmt.entry)) frame.old f) }
     ensures scopes { OnOk result (leaves todo.new.items + length frame.old.numbers ≡ leaves todo.old.items + length frame.new.numbers) }
@@ -341,6 +352,7 @@ fn begin_stmt<'a>(
     ensures typed { OnOk result (IsTypedBody given.entry.checked.now frame.new todo.new.items) }
     ensures call { IfOk result (λ r. IfSome r (λ q. IsTypedCall given.entry.checked.now frame.new q)) }
     ensures adds { OnOk result (AddsNoCall frame.old.body frame.new.body) }
+    ensures turns { IfOk result (λ r. HasRoomFor r frame.new) }
 {
     take_step(frame, stmt.place)?;
     begin(given, frame, todo, stmt.place, &stmt.act)
@@ -356,6 +368,7 @@ fn next_statement<'a>(
     requires accepted { IsAccepted given.checked.now }
     requires typed { IsTypedBody given.checked.now frame.old (todo.old.items ++ Todo.Rest stmts ∷ []) }
     requires turns { HasRoom frame.old }
+    requires folded { IsFolded frame.old.body.items }
     ensures ok { IfOk result (λ r. Advanced (program_of given.entry.checked.now) given.entry.choice (λ c. doing (program_of given.entry.checked.now) c (Todo.Rest stmts.entry)) frame.old todo.old.items r frame.new todo.new.items) }
     ensures err { IfErr result (λ f. f ≢ ElabFault.Memory → StopsAt given.entry.choice (λ c. doing (program_of given.entry.checked.now) c (Todo.Rest stmts.entry)) frame.old f) }
     ensures scopes { OnOk result (leaves todo.new.items + length frame.old.numbers ≡ leaves todo.old.items + length frame.new.numbers) }
@@ -363,6 +376,7 @@ fn next_statement<'a>(
     ensures typed { OnOk result (IsTypedBody given.entry.checked.now frame.new todo.new.items) }
     ensures call { IfOk result (λ r. IfSome r (λ q. IsTypedCall given.entry.checked.now frame.new q)) }
     ensures adds { OnOk result (AddsNoCall frame.old.body frame.new.body) }
+    ensures turns { IfOk result (λ r. HasRoomFor r frame.new) }
 {
     let [first, rest @ ..] = stmts else {
         return Ok(None);
@@ -398,12 +412,14 @@ fn tested_round<'a>(
 ) -> Result<(), ElabFault>
     requires test { rounds.test ≡ Some test }
     requires typed { IsTypedBody given.checked.now frame.old (todo.old.items ++ Todo.Loop rounds ∷ []) }
+    requires turns { HasRoom frame.old }
     ensures ok { OnOk result (Advanced (program_of given.entry.checked.now) given.entry.choice (λ c. looped (program_of given.entry.checked.now) c rounds.entry) frame.old todo.old.items None frame.new todo.new.items) }
     ensures err { IfErr result (λ f. f ≢ ElabFault.Memory → StopsAt given.entry.choice (λ c. looped (program_of given.entry.checked.now) c rounds.entry) frame.old f) }
     ensures scopes { OnOk result (leaves todo.new.items + length frame.old.numbers ≡ leaves todo.old.items + length frame.new.numbers) }
     ensures falls { OnOk result (6 * frame.new.steps + length todo.new.items ≤ 6 * frame.old.steps + length todo.old.items) }
     ensures typed { OnOk result (IsTypedBody given.entry.checked.now frame.new todo.new.items) }
     ensures body { OnOk result (frame.new.body ≡ frame.old.body) }
+    ensures turns { OnOk result (HasRoom frame.new) }
 {
     take_step(frame, rounds.at)?;
     let again = holds(frame, test)?;
@@ -426,6 +442,7 @@ fn untested_round<'a>(
     requires accepted { IsAccepted given.checked.now }
     requires typed { IsTypedBody given.checked.now frame.old (todo.old.items ++ Todo.Loop rounds ∷ []) }
     requires turns { HasRoom frame.old }
+    requires folded { IsFolded frame.old.body.items }
     ensures ok { IfOk result (λ r. Advanced (program_of given.entry.checked.now) given.entry.choice (λ c. looped (program_of given.entry.checked.now) c rounds.entry) frame.old todo.old.items r frame.new todo.new.items) }
     ensures err { IfErr result (λ f. f ≢ ElabFault.Memory → StopsAt given.entry.choice (λ c. looped (program_of given.entry.checked.now) c rounds.entry) frame.old f) }
     ensures scopes { OnOk result (leaves todo.new.items + length frame.old.numbers ≡ leaves todo.old.items + length frame.new.numbers) }
@@ -433,6 +450,7 @@ fn untested_round<'a>(
     ensures typed { OnOk result (IsTypedBody given.entry.checked.now frame.new todo.new.items) }
     ensures call { IfOk result (λ r. IfSome r (λ q. IsTypedCall given.entry.checked.now frame.new q)) }
     ensures adds { OnOk result (AddsNoCall frame.old.body frame.new.body) }
+    ensures turns { IfOk result (λ r. HasRoomFor r frame.new) }
 {
     enter_round(given.alloc, frame, todo, rounds)?;
     begin_stmt(given, frame, todo, rounds.body)
@@ -448,6 +466,7 @@ fn next_round<'a>(
     requires accepted { IsAccepted given.checked.now }
     requires typed { IsTypedBody given.checked.now frame.old (todo.old.items ++ Todo.Loop rounds ∷ []) }
     requires turns { HasRoom frame.old }
+    requires folded { IsFolded frame.old.body.items }
     ensures ok { IfOk result (λ r. Advanced (program_of given.entry.checked.now) given.entry.choice (λ c. looped (program_of given.entry.checked.now) c rounds.entry) frame.old todo.old.items r frame.new todo.new.items) }
     ensures err { IfErr result (λ f. f ≢ ElabFault.Memory → StopsAt given.entry.choice (λ c. looped (program_of given.entry.checked.now) c rounds.entry) frame.old f) }
     ensures scopes { OnOk result (leaves todo.new.items + length frame.old.numbers ≡ leaves todo.old.items + length frame.new.numbers) }
@@ -455,6 +474,7 @@ fn next_round<'a>(
     ensures typed { OnOk result (IsTypedBody given.entry.checked.now frame.new todo.new.items) }
     ensures call { IfOk result (λ r. IfSome r (λ q. IsTypedCall given.entry.checked.now frame.new q)) }
     ensures adds { OnOk result (AddsNoCall frame.old.body frame.new.body) }
+    ensures turns { IfOk result (λ r. HasRoomFor r frame.new) }
 {
     match rounds.test {
         Some(test) => {
@@ -476,6 +496,7 @@ pub(crate) fn advance<'a>(
     requires nested { leaves (todo.old.items ++ next ∷ []) < length frame.old.numbers }
     requires typed { IsTypedBody given.checked.now frame.old (todo.old.items ++ next ∷ []) }
     requires turns { HasRoom frame.old }
+    requires folded { IsFolded frame.old.body.items }
     ensures ok { IfOk result (λ r. Advanced (program_of given.entry.checked.now) given.entry.choice (λ c. doing (program_of given.entry.checked.now) c next.entry) frame.old todo.old.items r frame.new todo.new.items) }
     ensures err { IfErr result (λ f. f ≢ ElabFault.Memory → StopsAt given.entry.choice (λ c. doing (program_of given.entry.checked.now) c next.entry) frame.old f) }
     ensures nested { OnOk result (leaves todo.new.items < length frame.new.numbers) }
@@ -484,6 +505,8 @@ pub(crate) fn advance<'a>(
     ensures call { IfOk result (λ r. IfSome r (λ q. IsTypedCall given.entry.checked.now frame.new q)) }
     ensures calls { (deck : List Module) → CallsFit deck frame.old.body.items → OnOk result (CallsFit deck frame.new.body.items) }
     ensures params { OnOk result (frame.new.body.params ≡ frame.old.body.params) }
+    ensures turns { IfOk result (λ r. HasRoomFor r frame.new) }
+    ensures folded { OnOk result (IsFolded frame.new.body.items) }
 {
     match next {
         Todo::Do(stmt) => begin_stmt(given, frame, todo, stmt),

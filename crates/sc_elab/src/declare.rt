@@ -1,7 +1,8 @@
 //! Declarations of wires and numbers, and settings of numbers.
-ghost use Rattle.std.specs.Prelude.{◌≡◌, ◌≢◌, map, option_map, OnOk, IfErr};
+ghost use Rattle.std.specs.Prelude.{◌≡◌, ◌≢◌, ◌+◌, ◌≤◌, map, option_map, OnOk, IfErr};
 ghost use Rattle.std.specs.Option.{option_copied};
 ghost use Rattle.sc_syntax.specs.Alike.{pure_expr, pure_decl, pure_init};
+ghost use Rattle.sc_deck.specs.Turns.{last_turns};
 ghost use Rattle.sc_meaning.specs.declared.choice.Choice.{Choice};
 ghost use Rattle.sc_elab.specs.Beginnings.{AddsNoCall};
 ghost use Rattle.sc_elab.specs.Frames.{view, Runs, IsRefused};
@@ -36,6 +37,7 @@ fn make_wires(
     ensures ok { OnOk result ((choice : Choice) → Runs choice (make_wires class name.now size (view frame.old)) frame.old frame.new) }
     ensures err { IfErr result (λ f. f ≢ ElabFault.Memory → (choice : Choice) → IsRefused choice (make_wires class name.now size (view frame.old)) frame.old f) }
     ensures adds { OnOk result (AddsNoCall frame.old.body frame.new.body) }
+    ensures turns { OnOk result (last_turns frame.new.body.items ≡ 1) }
 {
     if size < 1 {
         return Err(ElabFault::BadSize(name.place));
@@ -64,6 +66,7 @@ pub(crate) fn declare_wires(
     ensures ok { OnOk result ((choice : Choice) → Runs choice (declare_wires class (map pure_decl decls.now) (view frame.old)) frame.old frame.new) }
     ensures err { IfErr result (λ f. f ≢ ElabFault.Memory → (choice : Choice) → IsRefused choice (declare_wires class (map pure_decl decls.now) (view frame.old)) frame.old f) }
     ensures adds { OnOk result (AddsNoCall frame.old.body frame.new.body) }
+    ensures turns { OnOk result (last_turns frame.new.body.items ≤ last_turns frame.old.body.items + 1) }
 {
     for decl in decls {
         let size = size_of(&frame.numbers, decl.size.as_ref())?;

@@ -5,8 +5,10 @@ use Rattle.sc_deck.specs.Decks.{CallsFit}
 use Rattle.sc_meaning.specs.Programs.{program_of}
 use Rattle.sc_elab.specs.declared.todo.Todo.{Todo}
 use Rattle.sc_elab.specs.declared.todo.Todo.TheVariants.{Do, Loop, Rest, Leave}
+use Rattle.sc_elab.specs.Folding.{IsFolded}
 use Rattle.sc_elab.proofs.BodyTyping.{leave_scope_typed}
 use Rattle.sc_elab.proofs.StatementParts.{leave_advanced, nested_on, scope_last, nested_off}
+use Rattle.sc_elab.proofs.TurnRoom.{left_room}
 use Rattle.sc_elab.proofs.advance.advance.Goals as goal
 
 -- ---- a statement
@@ -28,6 +30,12 @@ returns-in-Do-clause-calls c = λ deck fit. on_ok_weaker c.begin_stmt.result (λ
 
 pub returns-in-Do-clause-params : goal.returns-in-Do-clause-params
 returns-in-Do-clause-params c = on_ok_weaker c.begin_stmt.result (λ a. a.params) c.begin_stmt.ensures.adds
+
+pub returns-in-Do-clause-turns : goal.returns-in-Do-clause-turns
+returns-in-Do-clause-turns c = c.begin_stmt.ensures.turns
+
+pub returns-in-Do-clause-folded : goal.returns-in-Do-clause-folded
+returns-in-Do-clause-folded c = on_ok_weaker c.begin_stmt.result (λ a. a.folded c.requires.folded) c.begin_stmt.ensures.adds
 
 pub returns-in-Do-clause-err : goal.returns-in-Do-clause-err
 returns-in-Do-clause-err c = rw c.in-Do.is c.begin_stmt.ensures.err
@@ -60,6 +68,12 @@ returns-in-Loop-clause-calls c = λ deck fit. on_ok_weaker c.next_round.result (
 pub returns-in-Loop-clause-params : goal.returns-in-Loop-clause-params
 returns-in-Loop-clause-params c = on_ok_weaker c.next_round.result (λ a. a.params) c.next_round.ensures.adds
 
+pub returns-in-Loop-clause-turns : goal.returns-in-Loop-clause-turns
+returns-in-Loop-clause-turns c = c.next_round.ensures.turns
+
+pub returns-in-Loop-clause-folded : goal.returns-in-Loop-clause-folded
+returns-in-Loop-clause-folded c = on_ok_weaker c.next_round.result (λ a. a.folded c.requires.folded) c.next_round.ensures.adds
+
 pub returns-in-Loop-clause-err : goal.returns-in-Loop-clause-err
 returns-in-Loop-clause-err c = rw c.in-Loop.is c.next_round.ensures.err
 
@@ -87,6 +101,12 @@ returns-in-Rest-clause-calls c = λ deck fit. on_ok_weaker c.next_statement.resu
 
 pub returns-in-Rest-clause-params : goal.returns-in-Rest-clause-params
 returns-in-Rest-clause-params c = on_ok_weaker c.next_statement.result (λ a. a.params) c.next_statement.ensures.adds
+
+pub returns-in-Rest-clause-turns : goal.returns-in-Rest-clause-turns
+returns-in-Rest-clause-turns c = c.next_statement.ensures.turns
+
+pub returns-in-Rest-clause-folded : goal.returns-in-Rest-clause-folded
+returns-in-Rest-clause-folded c = on_ok_weaker c.next_statement.result (λ a. a.folded c.requires.folded) c.next_statement.ensures.adds
 
 pub returns-in-Rest-clause-err : goal.returns-in-Rest-clause-err
 returns-in-Rest-clause-err c = rw c.in-Rest.is c.next_statement.ensures.err
@@ -117,6 +137,12 @@ returns-in-Leave-clause-calls c = λ deck fit. subst (λ (b : Contents). CallsFi
 
 pub returns-in-Leave-clause-params : goal.returns-in-Leave-clause-params
 returns-in-Leave-clause-params c = ap (λ (b : Contents). b.params) c.leave.ensures.body
+
+pub returns-in-Leave-clause-turns : goal.returns-in-Leave-clause-turns
+returns-in-Leave-clause-turns c = left_room c.args.frame.now c.leave.new.self c.leave.ensures.view c.leave.ensures.body c.requires.turns
+
+pub returns-in-Leave-clause-folded : goal.returns-in-Leave-clause-folded
+returns-in-Leave-clause-folded c = subst (λ (b : Contents). IsFolded b.items) (sym c.leave.ensures.body) c.requires.folded
 
 pub returns-in-Leave-clause-nested : goal.returns-in-Leave-clause-nested
 returns-in-Leave-clause-nested c =

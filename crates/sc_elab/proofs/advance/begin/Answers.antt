@@ -1,4 +1,4 @@
-use Rattle.std.proofs.Common.{◌≡◌, None, refl, sym, ap, ◌∙◌, subst, length}
+use Rattle.std.proofs.Common.{◌≡◌, None, refl, sym, ap, ◌∙◌, subst, length, arith}
 use Rattle.std.specs.Prelude.{map, option_map}
 use Rattle.std.specs.Option.{option_copied}
 use Rattle.std.proofs.lemmas.Result.{err_from_is_err_and, on_ok_weaker, IfOk-weaker, IfErr-weaker}
@@ -17,6 +17,7 @@ use Rattle.sc_elab.proofs.Keeping.{keeps_wires, keeps_numbers, keeps_set, begun_
 use Rattle.sc_elab.proofs.PendingLaws.{advanced_from}
 use Rattle.sc_elab.proofs.PushedGates.{adds_none}
 use Rattle.sc_elab.proofs.StatementParts.{always, act_done, act_refused, advanced_none, begun_others, while_advanced, while_begun}
+use Rattle.sc_elab.proofs.TurnRoom.{turns_none}
 use Rattle.sc_elab.proofs.advance.begin.Goals as goal
 
 -- ---- wires
@@ -318,3 +319,34 @@ returns-in-Empty-clause-typed c =
 pub returns-in-Empty-clause-adds : goal.returns-in-Empty-clause-adds
 returns-in-Empty-clause-adds c =
     adds_none c.args.frame.now.body c.args.frame.now.body refl
+
+-- ---- the turns of the last item
+
+pub returns-in_ok-declare_wires-in-Wires-clause-turns : goal.returns-in_ok-declare_wires-in-Wires-clause-turns
+returns-in_ok-declare_wires-in-Wires-clause-turns c =
+    let few = c.in_ok-declare_wires-in-Wires.ensures.turns in
+    omega arith
+
+pub returns-in_ok-declare_numbers-in-Numbers-clause-turns : goal.returns-in_ok-declare_numbers-in-Numbers-clause-turns
+returns-in_ok-declare_numbers-in-Numbers-clause-turns c = turns_none c.args.frame.now.body c.declare_numbers.new.frame.body c.in_ok-declare_numbers-in-Numbers.ensures.body
+
+pub returns-in_ok-set_number-in-Set-clause-turns : goal.returns-in_ok-set_number-in-Set-clause-turns
+returns-in_ok-set_number-in-Set-clause-turns c = turns_none c.args.frame.now.body c.set_number.new.frame.body c.in_ok-set_number-in-Set.ensures.body
+
+pub returns-in-Call-clause-turns : goal.returns-in-Call-clause-turns
+returns-in-Call-clause-turns c = c.begin_call.ensures.turns
+
+pub returns-in_ok-begin_if-in-If-clause-turns : goal.returns-in_ok-begin_if-in-If-clause-turns
+returns-in_ok-begin_if-in-If-clause-turns c = turns_none c.args.frame.now.body c.begin_if.new.frame.body c.in_ok-begin_if-in-If.ensures.body
+
+pub returns-in_ok-push-in-While-clause-turns : goal.returns-in_ok-push-in-While-clause-turns
+returns-in_ok-push-in-While-clause-turns c = turns_none c.args.frame.now.body c.args.frame.now.body refl
+
+pub returns-in_ok-begin_for-in-For-clause-turns : goal.returns-in_ok-begin_for-in-For-clause-turns
+returns-in_ok-begin_for-in-For-clause-turns c = turns_none c.args.frame.now.body c.begin_for.new.frame.body c.in_ok-begin_for-in-For.ensures.body
+
+pub returns-in_ok-begin_block-in-Block-clause-turns : goal.returns-in_ok-begin_block-in-Block-clause-turns
+returns-in_ok-begin_block-in-Block-clause-turns c = turns_none c.args.frame.now.body c.begin_block.new.frame.body c.in_ok-begin_block-in-Block.ensures.body
+
+pub returns-in-Empty-clause-turns : goal.returns-in-Empty-clause-turns
+returns-in-Empty-clause-turns c = turns_none c.args.frame.now.body c.args.frame.now.body refl

@@ -4,6 +4,7 @@ use Rattle.sc_elab.specs.Callees.{definition_by}
 use Rattle.sc_meaning.specs.Programs.{program_of}
 use Rattle.sc_elab.proofs.CallParts.{gate_advanced, gate_stops, nothing_advanced, named_advanced, named_stops, gate_fits, named_typed}
 use Rattle.sc_elab.proofs.PushedGates.{adds_none}
+use Rattle.sc_elab.proofs.TurnRoom.{turns_none}
 use Rattle.sc_elab.proofs.advance.begin_call.Goals as goal
 
 pub call_gate-requires-clause-fits : goal.call_gate-requires-clause-fits
@@ -48,3 +49,9 @@ returns-in_err-request-in-Some-clause-err c =
     rw (p.1, p.2) (λ other.
     named_stops (program_of c.args.given.checked.now) c.args.given.choice c.args.call.now.callee c.in-Named.name (definition_by c.in-Some.callee) c.args.call.now.args c.as_slice-args.result.now c.args.frame.now _
     c.in-Named.is c.as_slice-args.ensures (sym c.in-Some.ensures) (c.in_err-request-in-Some.ensures.err other))
+
+pub returns-in-None-clause-turns : goal.returns-in-None-clause-turns
+returns-in-None-clause-turns c = turns_none c.args.frame.now.body c.args.frame.now.body refl
+
+pub returns-in_ok-request-in-Some-clause-turns : goal.returns-in_ok-request-in-Some-clause-turns
+returns-in_ok-request-in-Some-clause-turns c = turns_none c.args.frame.now.body c.args.frame.now.body refl

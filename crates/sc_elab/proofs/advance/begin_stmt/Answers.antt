@@ -2,10 +2,13 @@ use Rattle.std.proofs.Common.{sym, ap, ◌∙◌, subst}
 use Rattle.std.specs.Prelude.{OnOk}
 use Rattle.std.proofs.lemmas.Result.{err_from_is_err_and, on_ok_weaker, IfOk-weaker, IfErr-weaker}
 use Rattle.sc_meaning.specs.Programs.{program_of}
+use Rattle.sc_deck.specs.Bodies.{Contents}
+use Rattle.sc_elab.specs.Folding.{IsFolded, HasRoomFor}
 use Rattle.sc_elab.proofs.BodyTyping.{act_first}
 use Rattle.sc_elab.proofs.LoopParts.{stepped_body}
 use Rattle.sc_elab.proofs.PushedGates.{adds_none, adds_both}
 use Rattle.sc_elab.proofs.StatementParts.{step_room, stmt_advanced, stmt_stops, stmt_long, stmt_scopes, stmt_falls}
+use Rattle.sc_elab.proofs.TurnRoom.{step_room_for, on_ok_both}
 use Rattle.sc_elab.proofs.advance.begin_stmt.Goals as goal
 
 pub returns-in_err-take_step-clause-err : goal.returns-in_err-take_step-clause-err
@@ -19,6 +22,16 @@ begin-requires-clause-typed c =
 
 pub begin-requires-clause-turns : goal.begin-requires-clause-turns
 begin-requires-clause-turns c = step_room c.args.frame.now c.take_step.new.frame c.args.stmt.now.place _ c.in_ok-take_step.ensures c.requires.turns
+
+pub begin-requires-clause-folded : goal.begin-requires-clause-folded
+begin-requires-clause-folded c =
+    subst (λ (b : Contents). IsFolded b.items) (sym (stepped_body c.args.frame.now c.take_step.new.frame c.args.stmt.now.place _ c.in_ok-take_step.ensures)) c.requires.folded
+
+pub returns-clause-turns : goal.returns-clause-turns
+returns-clause-turns c =
+    on_ok_both c.begin.result _ _ (λ r. HasRoomFor r c.begin.new.frame)
+    (λ r begun few. step_room_for c.args.frame.now c.take_step.new.frame c.begin.new.frame c.args.stmt.now.place _ c.in_ok-take_step.ensures c.requires.turns begun.steps few r)
+    c.begin.ensures.begun c.begin.ensures.turns
 
 pub returns-clause-ok : goal.returns-clause-ok
 returns-clause-ok c =

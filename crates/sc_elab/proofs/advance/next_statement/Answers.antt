@@ -27,6 +27,9 @@ returns-clause-ok c =
 pub returns-clause-typed : goal.returns-clause-typed
 returns-clause-typed c = c.begin_stmt.ensures.typed
 
+pub returns-clause-turns : goal.returns-clause-turns
+returns-clause-turns c = c.begin_stmt.ensures.turns
+
 pub returns-clause-call : goal.returns-clause-call
 returns-clause-call c = c.begin_stmt.ensures.call
 

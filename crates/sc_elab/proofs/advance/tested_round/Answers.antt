@@ -7,6 +7,7 @@ use Rattle.sc_elab.specs.Stepping.{holds}
 use Rattle.sc_elab.proofs.BodyTyping.{typed_last, part_stepped, round_typed, ends_typed}
 use Rattle.sc_elab.proofs.LoopParts.{stepped_body}
 use Rattle.sc_elab.proofs.StatementParts.{truth_is, round_advanced, round_ends, round_fault, round_long, round_scopes, round_falls, ends_scopes, ends_falls}
+use Rattle.sc_elab.proofs.TurnRoom.{ends_room, round_room}
 use Rattle.sc_elab.proofs.advance.tested_round.Goals as goal
 
 pub returns-in_err-take_step-clause-err : goal.returns-in_err-take_step-clause-err
@@ -67,3 +68,11 @@ returns-clause-typed c =
 
 pub returns-clause-body : goal.returns-clause-body
 returns-clause-body c = stepped_body c.args.frame.now c.take_step.new.frame c.args.rounds.at _ c.in_ok-take_step.ensures
+
+pub returns-then-again-clause-turns : goal.returns-then-again-clause-turns
+returns-then-again-clause-turns c =
+    round_room c.args.frame.now c.take_step.new.frame c.enter_round.new.frame c.args.rounds.at _ c.in_ok-take_step.ensures
+    c.in_ok-enter_round.ensures.view c.in_ok-enter_round.ensures.body c.requires.turns
+
+pub returns-clause-turns : goal.returns-clause-turns
+returns-clause-turns c = ends_room c.args.frame.now c.take_step.new.frame c.args.rounds.at _ c.in_ok-take_step.ensures c.requires.turns

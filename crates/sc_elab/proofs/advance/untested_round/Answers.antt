@@ -1,6 +1,8 @@
-use Rattle.std.proofs.Common.{[], ◌∷◌, ◌++◌, refl}
+use Rattle.std.proofs.Common.{[], ◌∷◌, ◌++◌, refl, sym, subst}
 use Rattle.std.proofs.lemmas.Result.{on_ok_weaker, IfOk-weaker, IfErr-weaker}
 use Rattle.sc_elab.specs.declared.todo.Todo.TheVariants.{Do, Loop}
+use Rattle.sc_deck.specs.Bodies.{Contents}
+use Rattle.sc_elab.specs.Folding.{IsFolded}
 use Rattle.sc_meaning.specs.Programs.{program_of}
 use Rattle.sc_elab.proofs.BodyTyping.{typed_last, round_typed}
 use Rattle.sc_elab.proofs.PushedGates.{adds_none, adds_both}
@@ -15,6 +17,12 @@ begin_stmt-requires-clause-typed c =
 
 pub begin_stmt-requires-clause-turns : goal.begin_stmt-requires-clause-turns
 begin_stmt-requires-clause-turns c = scope_room c.args.frame.now c.enter_round.new.frame c.in_ok-enter_round.ensures.view c.in_ok-enter_round.ensures.body c.requires.turns
+
+pub begin_stmt-requires-clause-folded : goal.begin_stmt-requires-clause-folded
+begin_stmt-requires-clause-folded c = subst (λ (b : Contents). IsFolded b.items) (sym c.in_ok-enter_round.ensures.body) c.requires.folded
+
+pub returns-clause-turns : goal.returns-clause-turns
+returns-clause-turns c = c.begin_stmt.ensures.turns
 
 pub returns-clause-ok : goal.returns-clause-ok
 returns-clause-ok c =

@@ -1,4 +1,4 @@
-use Rattle.std.proofs.Common.{◌≡◌, ◌+◌, Option, Ok, drop, refl, sym, ap, ◌∙◌, subst, rules, FitsSigned, w64}
+use Rattle.std.proofs.Common.{◌≡◌, ◌+◌, Option, Ok, drop, refl, sym, ap, ◌∙◌, subst, arith, rules, FitsSigned, w64}
 use Rattle.std.specs.Prelude.{ℤ, map, option_map}
 use Rattle.std.proofs.lemmas.Int.{to_z-of_z}
 use Rattle.std.proofs.lemmas.Result.{err_from_is_err_and}
@@ -28,12 +28,14 @@ loop-decl-preserved c = record {
       (wires_next c.args.class decls c.loop-decl.decl-index d c.in_ok-size.size (view g) c.loop-decl-test.true c.decl-item.is sized)
       (subst (λ (z : ℤ). Runs choice (make_wires c.args.class d.name z (view g)) g h) (to_z-of_z w64 c.in_ok-size.size fits) (c.in_ok-make_wires.ensures.ok choice));
   adds = adds_both c.args.frame.now.body c.loop-decl.frame.body c.make_wires.new.frame.body c.loop-decl.invariant.adds c.in_ok-make_wires.ensures.adds;
+  turns = (let one = c.in_ok-make_wires.ensures.turns in omega arith);
 }
 
 pub loop-decl-init : goal.loop-decl-init
 loop-decl-init c = record {
   goes = λ choice. goes_is choice (declare_wires c.args.class (map pure_decl c.args.decls.now) (view c.args.frame.now)) (declare_wires c.args.class (map pure_decl c.args.decls.now) (view c.args.frame.now)) c.args.frame.now refl;
   adds = adds_none c.args.frame.now.body c.args.frame.now.body refl;
+  turns = omega arith;
 }
 
 pub returns-in_err-make_wires-clause-err : goal.returns-in_err-make_wires-clause-err
