@@ -35,7 +35,7 @@ number_written (m ∷ deck) key = ap (λ (n : ℕ). if same_key m.key key then 0
 -- ---- one module more
 
 module _ (f : List Item → List Item) where
-  each : Module → Module
+  abbrev each : Module → Module
   each m = record { key = m.key; items = f m.items }
 
   put_by : (b : Bool) (m : Module) (deck new new' : List Module) → map each new ≡ new' → map each (if b then m ∷ deck else m ∷ new) ≡ (if b then each m ∷ map each deck else each m ∷ new')
@@ -77,7 +77,7 @@ pub calls_written : (deck : List Module) (items : List Item) → CallsFit (writt
 calls_written deck [] = refl
 calls_written deck (i ∷ items) = λ k. item_written deck i k × calls_written deck items k
 
-calls_append : (deck : List Module) (xs ys : List Item) → CallsFit deck xs → CallsFit deck ys → CallsFit deck (xs ++ ys)
+pub calls_append : (deck : List Module) (xs ys : List Item) → CallsFit deck xs → CallsFit deck ys → CallsFit deck (xs ++ ys)
 calls_append deck [] ys h k = k
 calls_append deck (x ∷ xs) ys h k = (h.0, calls_append deck xs ys h.1 k)
 

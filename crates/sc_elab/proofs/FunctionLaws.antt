@@ -56,7 +56,7 @@ use Rattle.sc_elab.proofs.StartLaws.{numbered_same}
 
 -- ---- the wires of a key with the widths of a function
 
-classes_of : (ws : List ℕ) → flat_map arg_classes (map (λ w. arg.Many Q w) ws) ≡ replicate (sum ws) Q
+pub classes_of : (ws : List ℕ) → flat_map arg_classes (map (λ w. arg.Many Q w) ws) ≡ replicate (sum ws) Q
 classes_of [] = refl
 classes_of (w ∷ ws) =
     ap (λ (cs : List Class). replicate w Q ++ cs) (classes_of ws)

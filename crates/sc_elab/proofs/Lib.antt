@@ -4,7 +4,6 @@ pub mod Beginning
 pub mod BodyTyping
 pub mod CallParts
 pub mod Calling
-pub mod CallsFit
 pub mod ChosenFits
 pub mod DeclareLaws
 pub mod Declaring
@@ -24,6 +23,7 @@ pub mod Going
 pub mod Holding
 pub mod Indexing
 pub mod Keeping
+pub mod KeptBodies
 pub mod KeyTyping
 pub mod Lengths
 pub mod LoopParts

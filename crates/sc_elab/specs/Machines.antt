@@ -1,20 +1,26 @@
 -- What the elaborator's functions promise of what is kept between bodies.
-use Rattle.std.specs.Prelude.{◌≡◌, ℕ, ◌<◌, List, [], ◌∷◌, length, Ok, Err}
+use Rattle.std.specs.Prelude.{◌≡◌, ℕ, ◌<◌, ◌≤◌, List, [], ◌∷◌, ◌++◌, length, slice_get, slice_index, Some, Ok, Err, All}
 use Rattle.sc_gate.specs.declared.gate.Wire.{Wire}
 use Rattle.sc_gate.specs.Numbers.{Numbers}
 use Rattle.sc_deck.specs.declared.Key.{Key}
 use Rattle.sc_deck.specs.declared.Item.{Item}
 use Rattle.sc_deck.specs.declared.Item.TheVariants as item
+use Rattle.sc_deck.specs.Modules.{Module, heights_of}
+use Rattle.sc_types.specs.Typing.{TypedSource}
 use Rattle.sc_meaning.specs.declared.choice.Choice.{Choice}
 use Rattle.sc_meaning.specs.declared.fault.ElabFault.{ElabFault}
 use Rattle.sc_meaning.specs.declared.fault.ElabFault.TheVariants.{TooManyInstances}
 use Rattle.sc_elab.specs.declared.frame.Frame.{Frame}
 use Rattle.sc_elab.specs.declared.machine.Machine.{Machine}
-use Rattle.sc_elab.specs.Folding.{written, written_modules}
+use Rattle.sc_elab.specs.Folding.{written, written_modules, AreFolded}
 use Rattle.sc_elab.specs.Frames.{view, made}
+use Rattle.sc_elab.specs.Typings.{IsEntering}
+use Rattle.sc_meaning.specs.Definitions.{Program}
 use Rattle.sc_meaning.specs.Instances.{with_key}
+use Rattle.sc_meaning.specs.Kept.{Held}
 use Rattle.sc_meaning.specs.Local.{Half, Made, with_half, ran}
 use Rattle.sc_meaning.specs.Outcomes.{Outcome}
+use Rattle.sc_meaning.specs.Programs.{program_of}
 use Rattle.sc_meaning.specs.States.{State}
 
 -- a key is one too many
@@ -58,3 +64,22 @@ pub record RunsBody (choice : Choice) (outcome : Outcome Numbers) (m : Machine) 
 -- it is refused
 abbrev pub IsRefusedBody : Choice → Outcome Numbers → Machine → ElabFault → Type 0
 IsRefusedBody choice outcome m fault = (wires : List Wire) (opened : List Half) → ran choice (made wires [] opened (written_modules m.deck) m.entered.keys) outcome ≡ Err fault
+
+-- ---- bodies that are kept
+
+-- the height of each body of a deck is the least depth at which its key returns, and all that it enters was entered and has returned
+abbrev pub AreHeld : Program → List Module → List Key → Type 0
+AreHeld program deck keys = (i : ℕ) (m : Module) → slice_get deck i ≡ Some m → Held program deck keys m.key (slice_index (heights_of deck) i)
+
+-- what is known of the bodies that have returned, and of the keys that were entered
+pub record KeepsBodies (t : TypedSource) (m : Machine) : Type 0 where
+  pub few : length m.entered.keys ≤ 65536
+  pub folded : AreFolded m.deck
+  -- a checked source enters their keys
+  pub entering : All (λ b. IsEntering t b.key) m.deck
+  pub held : AreHeld (program_of t) (written_modules m.deck) m.entered.keys
+
+-- a deck with further bodies behind it
+pub record GrowsTo (deck deck' : List Module) : Type 0 where
+  pub more : List Module
+  pub is : deck' ≡ deck ++ more

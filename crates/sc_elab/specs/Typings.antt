@@ -108,9 +108,9 @@ ArgsFit [] [] = Unit {0}
 ArgsFit (t ∷ ts) (a ∷ args) = ArgFits t a × ArgsFit ts args
 ArgsFit _ _ = ⊥
 
--- the arguments of a key are those that its definition takes
+-- a key has a definition, and its arguments are those that it takes
 abbrev pub Takes : Option Definition → Key → Type 0
-Takes None key = Unit {0}
+Takes None key = ⊥
 Takes (Some (of_module name params body)) key = ArgsFit (map (λ p. want_of p.sort) params) key.args
 Takes (Some (of_function name f)) key = HasWidths f key
 

@@ -1,8 +1,7 @@
 //! Gates of a body.
-ghost use Rattle.std.specs.Prelude.{◌≡◌, ◌≢◌, ◌↔◌, ◌+◌, ◌<◌, ◌^◌, fold, length, map, option_map, IsTrue, Ok, Err, OnOk, IfOk, IfErr};
+ghost use Rattle.std.specs.Prelude.{◌≡◌, ◌≢◌, ◌+◌, ◌<◌, ◌^◌, fold, length, map, option_map, Ok, Err, OnOk, IfOk, IfErr};
 ghost use Rattle.std.specs.List.{AllByRecursion};
 ghost use Rattle.std.specs.Option.{option_copied};
-ghost use Rattle.sc_gate.specs.Numbers.{IsThere};
 ghost use Rattle.sc_syntax.specs.Alike.{pure_expr, pure_operand};
 ghost use Rattle.sc_deck.specs.Bodies.{wires_of};
 ghost use Rattle.sc_deck.specs.Items.{GateFits};
@@ -126,12 +125,6 @@ pub(crate) fn measured(alloc: Global, frame: &Frame, measure: &Measure) -> Resul
     push_span(&mut wires, qubit)?;
     push_span(&mut wires, bit)?;
     Ok(gate_on(kind, &wires))
-}
-
-pub(crate) fn is_there(body: &Body, wire: Wire) -> bool
-    ensures { IsTrue result ↔ IsThere (wires_of body.now) wire }
-{
-    wire.number < body.count(wire.class)
 }
 
 /// Appends gates, each of which may join the last item.
