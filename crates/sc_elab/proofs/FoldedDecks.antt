@@ -35,7 +35,7 @@ number_written (m ∷ deck) key = ap (λ (n : ℕ). if same_key m.key key then 0
 -- ---- one module more
 
 module _ (f : List Item → List Item) where
-  each : Module → Module
+  abbrev each : Module → Module
   each m = record { key = m.key; items = f m.items }
 
   put_by : (b : Bool) (m : Module) (deck new new' : List Module) → map each new ≡ new' → map each (if b then m ∷ deck else m ∷ new) ≡ (if b then each m ∷ map each deck else each m ∷ new')
