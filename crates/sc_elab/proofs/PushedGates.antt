@@ -1,8 +1,8 @@
 -- What a body with more gates and fresh wires keeps: its parameters, its calls, and with gates alone its wires.
-use Rattle.std.proofs.Common.{◌≡◌, ℕ, zero, suc, ◌+◌, ◌<◌, ◌≤◌, List, [], ◌∷◌, ◌++◌, length, get_or, take, refl, sym, ap, ◌∙◌, subst, arith}
+use Rattle.std.proofs.Common.{◌≡◌, ℕ, zero, suc, ◌+◌, ◌^◌, ◌<◌, ◌≤◌, List, [], ◌∷◌, ◌++◌, length, get_or, take, refl, sym, ap, ◌∙◌, subst, arith}
 use Rattle.std.specs.Prelude.{map, fold}
 use Rattle.std.specs.List.{AllByRecursion}
-use Rattle.std.proofs.lemmas.List.{take_more}
+use Rattle.std.proofs.lemmas.List.{take_more, length-take}
 use Rattle.sc_base.specs.declared.Class.{Class}
 use Rattle.sc_gate.specs.declared.gate.Gate.{Gate}
 use Rattle.sc_gate.specs.Numbers.{Numbers, both}
@@ -57,6 +57,13 @@ fits_at n (g ∷ gs) (suc i) d below h = fits_at n gs i d (omega arith) h.1
 -- how many turns the last item has behind them
 pub turns_behind : (body new : Contents) (gs : List Gate) → new ≡ record body { items = pushed body.items gs } → last_turns new.items ≤ last_turns body.items + length gs
 turns_behind body new gs same = subst (λ (b : Contents). last_turns b.items ≤ last_turns body.items + length gs) (sym same) (turns_gates body.items gs)
+
+pub turns_at : (body new : Contents) (gs : List Gate) (i : ℕ) → i < length gs → new ≡ record body { items = pushed body.items (take i gs) } → last_turns body.items + length gs < 2 ^ 64
+    → last_turns new.items + 1 < 2 ^ 64
+turns_at body new gs i below same room =
+    let behind = turns_behind body new (take i gs) same in
+    let some = length-take i gs in
+    omega arith
 
 -- the state of the body stays
 pub gates_view : (f g : Frame) (gs : List Gate) → g.body ≡ record f.body { items = pushed f.body.items gs } → g ≡ record f { body = g.body } → view g ≡ view f

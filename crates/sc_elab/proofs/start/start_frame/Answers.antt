@@ -17,10 +17,10 @@ use Rattle.sc_elab.proofs.StartTyping.{start_typed}
 use Rattle.sc_elab.proofs.start.start_frame.Goals as goal
 
 pub param_wires-requires : goal.param_wires-requires
-param_wires-requires c = subst (λ (args : List Arg). both (with_args no_wires args) ≤ 65536) (sym c.as_slice-args.ensures) c.requires.entering.few
+param_wires-requires c = record { few = subst (λ (args : List Arg). both (with_args no_wires args) ≤ 65536) (sym c.as_slice-args.ensures) c.requires.entering.few }
 
-pub param_counts-requires : goal.param_counts-requires
-param_counts-requires c = subst (λ (args : List Arg). both (with_args no_wires args) ≤ 65536) (sym c.as_slice-args.ensures) c.requires.entering.few
+pub param_counts-counts-requires : goal.param_counts-counts-requires
+param_counts-counts-requires c = record { few = subst (λ (args : List Arg). both (with_args no_wires args) ≤ 65536) (sym c.as_slice-args.ensures) c.requires.entering.few }
 
 pub new-requires : goal.new-requires
 new-requires c =
