@@ -2,7 +2,7 @@
 use Rattle.std.proofs.Common.{◌≡◌, ℕ, zero, suc, ◌+◌, ◌^◌, ◌<◌, ◌≤◌, List, [], ◌∷◌, ◌++◌, length, get_or, take, refl, sym, ap, ◌∙◌, subst, arith}
 use Rattle.std.specs.Prelude.{map, fold}
 use Rattle.std.specs.List.{AllByRecursion}
-use Rattle.std.proofs.lemmas.List.{take_more, length-take}
+use Rattle.std.proofs.lemmas.List.{length-take}
 use Rattle.sc_base.specs.declared.Class.{Class}
 use Rattle.sc_gate.specs.declared.gate.Gate.{Gate}
 use Rattle.sc_gate.specs.Numbers.{Numbers, both}
@@ -25,14 +25,6 @@ use Rattle.sc_elab.proofs.Folding.{folds_gates, folds_fresh, turns_gates}
 
 abbrev pub pushed : List Item → List Gate → List Item
 pushed items gs = fold with_folded items (map item.Gate gs)
-
-pushed_last : (items : List Item) (gs : List Gate) (g : Gate) → pushed items (gs ++ g ∷ []) ≡ with_folded (pushed items gs) (item.Gate g)
-pushed_last items [] g = refl
-pushed_last items (h ∷ gs) g = pushed_last (with_folded items (item.Gate h)) gs g
-
--- one gate more
-pub pushed_more : (items : List Item) (gs : List Gate) (i : ℕ) (d : Gate) → i < length gs → pushed items (take (i + 1) gs) ≡ with_folded (pushed items (take i gs)) (item.Gate (get_or gs i d))
-pushed_more items gs i d below = ap (pushed items) (take_more gs i d below) ∙ pushed_last items (take i gs) (get_or gs i d)
 
 after_one : (numbers : Numbers) (items : List Item) (g : Gate) → after_items numbers (with_folded items (item.Gate g)) ≡ after_items numbers items
 after_one numbers items g = (with_folded-stands items (item.Gate g)).after numbers ∙ after_items-push numbers items (item.Gate g)
