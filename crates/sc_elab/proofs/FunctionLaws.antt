@@ -4,7 +4,7 @@ use Rattle.std.specs.Prelude.{nat_lt, nat_le, map, flat_map, fold, replicate, su
 use Rattle.std.specs.List.{AllByRecursion}
 use Rattle.std.proofs.lemmas.List.{replicate-append-replicate, take_more}
 use Rattle.std.proofs.lemmas.Grind.{flat_map-append}
-use Rattle.std.proofs.lemmas.List.Sums.{sum_by-cons, sum_by-append}
+use Rattle.std.proofs.lemmas.List.Sums.{sum_by-cons, sum_by-append, fold-append}
 use Rattle.sc_base.specs.declared.Class.{Class}
 use Rattle.sc_base.specs.declared.Class.TheVariants.{Q, C}
 use Rattle.sc_gate.specs.declared.gate.Wire.{Wire}
@@ -337,7 +337,7 @@ chosen_more choice items i d below =
 pub folded_more : (choice : Choice) (items : List Item) (i : ℕ) (d : Item) → i < length items
     → folded (flat_map (chosen_items choice) (take (i + 1) items)) ≡ fold with_folded (folded (flat_map (chosen_items choice) (take i items))) (chosen_items choice (get_or items i d))
 folded_more choice items i d below =
-    ap folded (chosen_more choice items i d below) ∙ fold-append with_folded (flat_map (chosen_items choice) (take i items)) (chosen_items choice (get_or items i d)) []
+    ap folded (chosen_more choice items i d below) ∙ fold-append with_folded [] (flat_map (chosen_items choice) (take i items)) (chosen_items choice (get_or items i d))
 
 pub after_folded : (choice : Choice) (numbers : Numbers) (items : List Item) → after_items numbers (folded (flat_map (chosen_items choice) items)) ≡ after_items numbers items
 after_folded choice numbers items = (folded-stands (flat_map (chosen_items choice) items)).after numbers ∙ after_chosen choice numbers items

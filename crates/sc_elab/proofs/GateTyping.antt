@@ -208,9 +208,9 @@ gate_apart n g count ps fit apart = passed_distinct n (gate_wants g count) ps (s
 
 -- ---- the gates that a state makes
 
-made_by : (s : State) (names : Stack) (g : GateName) (args : List PureExpr) (gate : Gate) → IsTyped names s → AllFit (kinds_in names) (type_wants g (length args)) args
+called_by : (s : State) (names : Stack) (g : GateName) (args : List PureExpr) (gate : Gate) → IsTyped names s → AllFit (kinds_in names) (type_wants g (length args)) args
     → called_gate s g args ≡ Ok gate → GateFits s.next gate
-made_by s names g args gate typed fits is =
+called_by s names g args gate typed fits is =
     let a = bind_ok (pass_all s (gate_wants g (length args)) args) (λ ps. kind_of g (slice_get ps 1) >>= λ k. distinct_after [] ps >>= λ _. Ok (gate_on k (wires_of ps))) gate is in
     let ps = a.0 in
     let b = bind_ok (kind_of g (slice_get ps 1)) (λ k. distinct_after [] ps >>= λ _. Ok (gate_on k (wires_of ps))) gate a.2 in
@@ -226,12 +226,12 @@ pub called_typed : (s : State) (names : Stack) (g : GateName) (args : List PureE
 called_typed s names g args typed fits = by (called_gate s g args) refl
   where
     by : (r : Result Gate ElabFault) → called_gate s g args ≡ r → IfOk r (GateFits s.next)
-    by (Ok gate) is = made_by s names g args gate typed fits is
+    by (Ok gate) is = called_by s names g args gate typed fits is
     by (Err f) is = tt
 
-taken_by : (s : State) (names : Stack) (g : GateName) (into from : PureNamed) (gate : Gate) → IsTyped names s → IsMeasuring g
+measured_by : (s : State) (names : Stack) (g : GateName) (into from : PureNamed) (gate : Gate) → IsTyped names s → IsMeasuring g
     → IsOperand (kinds_in names) (OneWire C) into → IsOperand (kinds_in names) (OneWire Q) from → measured s g into from ≡ Ok gate → GateFits s.next gate
-taken_by s names g into from gate typed measures bit qubit is =
+measured_by s names g into from gate typed measures bit qubit is =
     let a = bind_ok (operand s into.name.text into.name.place into.value)
     (λ c. operand s from.name.text from.name.place from.value >>= λ q. kind_of g None >>= λ k. Ok (gate_on k (q ++ c))) gate is in
     let c = a.0 in
@@ -247,5 +247,5 @@ pub measured_typed : (s : State) (names : Stack) (g : GateName) (into from : Pur
 measured_typed s names g into from typed measures bit qubit = by (measured s g into from) refl
   where
     by : (r : Result Gate ElabFault) → measured s g into from ≡ r → IfOk r (GateFits s.next)
-    by (Ok gate) is = taken_by s names g into from gate typed measures bit qubit is
+    by (Ok gate) is = measured_by s names g into from gate typed measures bit qubit is
     by (Err f) is = tt

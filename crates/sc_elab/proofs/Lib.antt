@@ -4,7 +4,6 @@ pub mod Beginning
 pub mod BodyTyping
 pub mod CallParts
 pub mod Calling
-pub mod ChosenFits
 pub mod DeclareLaws
 pub mod Declaring
 pub mod Distinct

@@ -1,7 +1,8 @@
 -- What a body with more gates and fresh wires keeps: its parameters, its calls, and with gates alone its wires.
-use Rattle.std.proofs.Common.{◌≡◌, ℕ, zero, suc, ◌+◌, ◌<◌, ◌≤◌, List, [], ◌∷◌, ◌++◌, length, get_or, take, refl, sym, ap, ◌∙◌, subst, arith}
+use Rattle.std.proofs.Common.{◌≡◌, ℕ, zero, suc, ◌+◌, ◌^◌, ◌<◌, ◌≤◌, List, [], ◌∷◌, ◌++◌, length, get_or, take, refl, sym, ap, ◌∙◌, subst, arith}
 use Rattle.std.specs.Prelude.{map, fold}
 use Rattle.std.specs.List.{AllByRecursion}
+use Rattle.std.proofs.lemmas.List.{length-take}
 use Rattle.sc_base.specs.declared.Class.{Class}
 use Rattle.sc_gate.specs.declared.gate.Gate.{Gate}
 use Rattle.sc_gate.specs.Numbers.{Numbers, both}
@@ -24,12 +25,6 @@ use Rattle.sc_elab.proofs.Folding.{folds_gates, folds_fresh, turns_gates}
 
 abbrev pub pushed : List Item → List Gate → List Item
 pushed items gs = fold with_folded items (map item.Gate gs)
-
--- one gate more
-pub pushed_more : (items : List Item) (gs : List Gate) (i : ℕ) (d : Gate) → i < length gs → pushed items (take (i + 1) gs) ≡ with_folded (pushed items (take i gs)) (item.Gate (get_or gs i d))
-pushed_more items [] i d below = absurd (omega arith)
-pushed_more items (g ∷ gs) zero d below = refl
-pushed_more items (g ∷ gs) (suc i) d below = pushed_more (with_folded items (item.Gate g)) gs i d (omega arith)
 
 after_one : (numbers : Numbers) (items : List Item) (g : Gate) → after_items numbers (with_folded items (item.Gate g)) ≡ after_items numbers items
 after_one numbers items g = (with_folded-stands items (item.Gate g)).after numbers ∙ after_items-push numbers items (item.Gate g)
@@ -54,6 +49,13 @@ fits_at n (g ∷ gs) (suc i) d below h = fits_at n gs i d (omega arith) h.1
 -- how many turns the last item has behind them
 pub turns_behind : (body new : Contents) (gs : List Gate) → new ≡ record body { items = pushed body.items gs } → last_turns new.items ≤ last_turns body.items + length gs
 turns_behind body new gs same = subst (λ (b : Contents). last_turns b.items ≤ last_turns body.items + length gs) (sym same) (turns_gates body.items gs)
+
+pub turns_at : (body new : Contents) (gs : List Gate) (i : ℕ) → i < length gs → new ≡ record body { items = pushed body.items (take i gs) } → last_turns body.items + length gs < 2 ^ 64
+    → last_turns new.items + 1 < 2 ^ 64
+turns_at body new gs i below same room =
+    let behind = turns_behind body new (take i gs) same in
+    let some = length-take i gs in
+    omega arith
 
 -- the state of the body stays
 pub gates_view : (f g : Frame) (gs : List Gate) → g.body ≡ record f.body { items = pushed f.body.items gs } → g ≡ record f { body = g.body } → view g ≡ view f

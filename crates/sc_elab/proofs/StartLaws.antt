@@ -108,14 +108,6 @@ few_at before [] i d below few = absurd (omega arith)
 few_at before (a ∷ args) zero d below few = let counted = count_args (with_arg before a) args in omega arith
 few_at before (a ∷ args) (suc i) d below few = few_at (with_arg before a) args i d (omega arith) few
 
--- the same, where the others are still to come
-pub few_first : (before : Numbers) (a : Arg) (args all : List Arg) → fold with_arg before (a ∷ args) ≡ fold with_arg no_wires all → both (fold with_arg no_wires all) ≤ 65536
-    → both (with_arg before a) ≤ 65536
-few_first before a args all same few =
-    let counted = count_args (with_arg before a) args in
-    let one = ap both same in
-    omega arith
-
 length_numbered : (cs : List Class) (next : Numbers) → length (numbered cs next) ≡ length cs
 length_numbered [] next = refl
 length_numbered (c ∷ cs) next = ap suc (length_numbered cs (with_more c 1 next))

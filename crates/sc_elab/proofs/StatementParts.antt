@@ -202,10 +202,6 @@ rest_stops program choice xs first rest f fault is stops =
     stops_first choice (λ call. doing program call (Rest xs)) (λ call. doing program call (Do first)) (λ call. pending program call (Rest rest ∷ []) finish) f f fault refl
     (λ call. acts_first program call xs.now first rest (view f) is) stops
 
-pub rest_none : (program : Program) (choice : Choice) (xs : Bor (List Stmt)) (f : Frame) (todo : List Todo) → xs.now ≡ [] → Advanced program choice (λ call. doing program call (Rest xs)) f todo None f todo
-rest_none program choice xs f todo is =
-    advanced_none program choice (λ call. doing program call (Rest xs)) f f todo refl (λ call. ap (λ (ys : List Stmt). acts program call (pure_stmt_list ys) (view f)) is)
-
 pub rest_scopes : (f g : Frame) (rest : Bor (List Stmt)) (todo mid todo' : List Todo) → mid ≡ todo ++ Rest rest ∷ [] → leaves todo' + length f.numbers ≡ leaves mid + length g.numbers
     → leaves todo' + length f.numbers ≡ leaves todo + length g.numbers
 rest_scopes f g rest todo mid todo' more h =

@@ -52,10 +52,6 @@ pub leaves_given : {A B : Type 0} (R : B → Type 0) (r : Result A ElabFault) (g
 leaves_given R (Ok a) go next = next a refl
 leaves_given R (Err fault) go next = tt
 
-pub leaves_leaving : {A B : Type 0} (P : A → Type 0) (R : B → Type 0) (f : A → B) (o : Outcome A) → Leaves P o → ((a : A) → P a → R (f a)) → Leaves R (leaving f o)
-leaves_leaving P R f (Done events a) h next = next a h
-leaves_leaving P R f (Stopped events fault) h next = tt
-
 -- ---- declared wires
 
 pub fresh_of : (c : Class) (k : ℕ) (next : Numbers) (first : ℕ) (n : ℕ) → first + n ≤ number_of c (with_more c k next) → AllByRecursion (IsOf c (with_more c k next)) (wires_from c first n)

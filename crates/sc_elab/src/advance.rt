@@ -84,6 +84,7 @@ fn holds(frame: &Frame, test: &Expr) -> Result<bool, ElabFault>
     Ok(is_true(number(&frame.numbers, test)?))
 }
 
+/// A body has at most 65,536 wires, and so has the key of a call that it comes to.
 fn is_narrow(body: &Body)
     ensures { both (wires_of body.now) ≤ 65536 }
 {

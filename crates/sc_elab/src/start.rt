@@ -152,19 +152,19 @@ fn param_wires(alloc: Global, params: &[Param], args: &[Arg]) -> Result<NameMap<
 pub(crate) fn start_frame(
     alloc: Global,
     checked: &Checked,
-    module: &Module,
+    called: &Module,
     key: &Key,
 ) -> Result<Frame, Memory>
     requires accepted { IsAccepted checked.now }
-    requires defined { definition (program_of checked.now) key.now.name ≡ Some (of_module module.now.name (map pure_param module.now.params) (pure_stmt_list module.now.body)) }
+    requires defined { definition (program_of checked.now) key.now.name ≡ Some (of_module called.now.name (map pure_param called.now.params) (pure_stmt_list called.now.body)) }
     requires entering { IsEntering checked.now key.now }
-    ensures view { IfOk result (λ f. view f ≡ start_state (map pure_param module.now.params) key.now.args (numbered (param_classes key.now) no_wires) (params_of key.now)) }
-    ensures typed { IfOk result (λ f. (stmts : Bor (List Stmt)) → stmts.now ≡ module.now.body → IsTypedBody checked.now f (Rest stmts ∷ [])) }
+    ensures view { IfOk result (λ f. view f ≡ start_state (map pure_param called.now.params) key.now.args (numbered (param_classes key.now) no_wires) (params_of key.now)) }
+    ensures typed { IfOk result (λ f. (stmts : Bor (List Stmt)) → stmts.now ≡ called.now.body → IsTypedBody checked.now f (Rest stmts ∷ [])) }
     ensures items { IfOk result (λ f. f.body.items ≡ []) }
     ensures params { IfOk result (λ f. f.body.params ≡ params_of key.now) }
     ensures turns { IfOk result (λ f. HasRoom f) }
 {
-    let params = module.params.as_slice();
+    let params = called.params.as_slice();
     let args = key.args.as_slice();
     let numbers = callee_numbers(alloc, params, args)?;
     let scope = param_wires(alloc, params, args)?;

@@ -212,12 +212,14 @@ returns-in_ok-begin_if-in-If-clause-ok c =
     (λ k. act_if program k c.args.at c.args.task.now c.in-If.test c.in-If.body c.in-If.other body other (view c.args.frame.now) c.in-If.is c.deref.ensures c.optional.ensures)
     c.in_ok-begin_if-in-If.ensures.ok
 
-pub begin_if-requires-clause-typed : goal.begin_if-requires-clause-typed
-begin_if-requires-clause-typed c =
+pub begin_if-requires : goal.begin_if-requires
+begin_if-requires c =
     let body = c.deref.result.now in
     let other = option_copied c.optional.result in
-    act_is c.args.given.checked.now c.args.frame.now (pure_act c.args.task.now) (if_act c.in-If.test body other) c.args.todo.now.items
-    (if_act_is c.args.task.now c.in-If.test c.in-If.body c.in-If.other body other c.in-If.is c.deref.ensures c.optional.ensures) c.requires.typed
+    record {
+      typed = act_is c.args.given.checked.now c.args.frame.now (pure_act c.args.task.now) (if_act c.in-If.test body other) c.args.todo.now.items
+          (if_act_is c.args.task.now c.in-If.test c.in-If.body c.in-If.other body other c.in-If.is c.deref.ensures c.optional.ensures) c.requires.typed;
+    }
 
 pub returns-in_ok-begin_if-in-If-clause-adds : goal.returns-in_ok-begin_if-in-If-clause-adds
 returns-in_ok-begin_if-in-If-clause-adds c =
@@ -267,13 +269,15 @@ returns-in_ok-begin_for-in-For-clause-ok c =
     c.deref-in-For.ensures c.optional-in-For.ensures)
     c.in_ok-begin_for-in-For.ensures.ok
 
-pub begin_for-requires-clause-typed : goal.begin_for-requires-clause-typed
-begin_for-requires-clause-typed c =
+pub begin_for-requires : goal.begin_for-requires
+begin_for-requires c =
     let first = option_copied c.optional-in-For-2.result in
     let rounds : Rounds = record { at = c.args.at; test = c.as_ref.result; body = c.deref-in-For.result; advance = c.optional-in-For.result } in
-    act_is c.args.given.checked.now c.args.frame.now (pure_act c.args.task.now) (for_act first rounds) c.args.todo.now.items
-    (for_act_is c.args.task.now c.in-For.start c.in-For.test c.in-For.advance c.in-For.body first rounds c.in-For.is c.optional-in-For-2.ensures c.as_ref.ensures.value c.deref-in-For.ensures
-    c.optional-in-For.ensures) c.requires.typed
+    record {
+      typed = act_is c.args.given.checked.now c.args.frame.now (pure_act c.args.task.now) (for_act first rounds) c.args.todo.now.items
+          (for_act_is c.args.task.now c.in-For.start c.in-For.test c.in-For.advance c.in-For.body first rounds c.in-For.is c.optional-in-For-2.ensures c.as_ref.ensures.value c.deref-in-For.ensures
+          c.optional-in-For.ensures) c.requires.typed;
+    }
 
 pub returns-in_ok-begin_for-in-For-clause-adds : goal.returns-in_ok-begin_for-in-For-clause-adds
 returns-in_ok-begin_for-in-For-clause-adds c =
@@ -290,11 +294,13 @@ returns-in_ok-begin_block-in-Block-clause-ok c =
     (λ k. act_block program k c.args.at c.args.task.now c.in-Block.stmts xs (view c.args.frame.now) c.in-Block.is c.as_slice-in-Block.ensures.value)
     c.in_ok-begin_block-in-Block.ensures.ok
 
-pub begin_block-requires-clause-typed : goal.begin_block-requires-clause-typed
-begin_block-requires-clause-typed c =
+pub begin_block-requires : goal.begin_block-requires
+begin_block-requires c =
     let xs = c.as_slice-in-Block.result.now in
-    act_is c.args.given.checked.now c.args.frame.now (pure_act c.args.task.now) (block_act xs) c.args.todo.now.items
-    (block_act_is c.args.task.now c.in-Block.stmts xs c.in-Block.is c.as_slice-in-Block.ensures.value) c.requires.typed
+    record {
+      typed = act_is c.args.given.checked.now c.args.frame.now (pure_act c.args.task.now) (block_act xs) c.args.todo.now.items
+          (block_act_is c.args.task.now c.in-Block.stmts xs c.in-Block.is c.as_slice-in-Block.ensures.value) c.requires.typed;
+    }
 
 pub returns-in_ok-begin_block-in-Block-clause-adds : goal.returns-in_ok-begin_block-in-Block-clause-adds
 returns-in_ok-begin_block-in-Block-clause-adds c =

@@ -6,14 +6,18 @@ use Rattle.sc_syntax.specs.declared.Stmt.{Stmt}
 use Rattle.sc_meaning.specs.Programs.{program_of}
 use Rattle.sc_elab.proofs.Beginning.{first_is}
 use Rattle.sc_elab.proofs.BodyTyping.{rest_typed, none_typed}
+use Rattle.sc_elab.proofs.Lengths.{none_left}
 use Rattle.sc_elab.proofs.StatementParts.{rest_advanced, rest_stops, rest_scopes, rest_falls}
 use Rattle.sc_elab.proofs.advance.next_statement.Goals as goal
 
 pub begin_stmt-requires-clause-typed : goal.begin_stmt-requires-clause-typed
 begin_stmt-requires-clause-typed c =
-    let first : Bor Stmt = record { ref_ptr = c.args.stmts.ref_ptr; now = c.first-item.result } in
     let is = first_is c.args.stmts.now c.first-item.result (omega arith) c.first-item.is in
-    rest_typed c.args.given.checked.now c.args.frame.now c.args.stmts first _ c.args.todo.now.items c.push.new.todo.items is c.in_ok-push.ensures c.requires.typed
+    rest_typed c.args.given.checked.now c.args.frame.now c.args.stmts _ _ c.args.todo.now.items c.push.new.todo.items is c.in_ok-push.ensures c.requires.typed
+
+pub returns-in_default-clause-typed : goal.returns-in_default-clause-typed
+returns-in_default-clause-typed c =
+    none_typed c.args.given.checked.now c.args.frame.now c.args.stmts c.args.todo.now.items (none_left c.args.stmts.now c.in_default.len_below) c.requires.typed
 
 pub returns-clause-ok : goal.returns-clause-ok
 returns-clause-ok c =

@@ -17,10 +17,10 @@ use Rattle.sc_elab.proofs.StartTyping.{start_typed}
 use Rattle.sc_elab.proofs.start.start_frame.Goals as goal
 
 pub param_wires-requires : goal.param_wires-requires
-param_wires-requires c = subst (λ (args : List Arg). both (with_args no_wires args) ≤ 65536) (sym c.as_slice-args.ensures) c.requires.entering.few
+param_wires-requires c = record { few = subst (λ (args : List Arg). both (with_args no_wires args) ≤ 65536) (sym c.as_slice-args.ensures) c.requires.entering.few }
 
-pub param_counts-requires : goal.param_counts-requires
-param_counts-requires c = subst (λ (args : List Arg). both (with_args no_wires args) ≤ 65536) (sym c.as_slice-args.ensures) c.requires.entering.few
+pub param_counts-counts-requires : goal.param_counts-counts-requires
+param_counts-counts-requires c = record { few = subst (λ (args : List Arg). both (with_args no_wires args) ≤ 65536) (sym c.as_slice-args.ensures) c.requires.entering.few }
 
 pub new-requires : goal.new-requires
 new-requires c =
@@ -30,7 +30,7 @@ new-requires c =
 
 pub returns-clause-view : goal.returns-clause-view
 returns-clause-view c =
-    let params = map pure_param c.args.module.now.params in
+    let params = map pure_param c.args.called.now.params in
     let ps = c.as_slice-params.ensures in
     let same = c.as_slice-args.ensures in
     let frame : Frame = record { numbers = c.in_ok-numbers.numbers; wires = c.push.new.self; steps = 1048576; body = c.new.result } in
@@ -43,10 +43,10 @@ returns-clause-view c =
 
 pub returns-clause-typed : goal.returns-clause-typed
 returns-clause-typed c = λ stmts same.
-    let params = map pure_param c.args.module.now.params in
+    let params = map pure_param c.args.called.now.params in
     let frame : Frame = record { numbers = c.in_ok-numbers.numbers; wires = c.push.new.self; steps = 1048576; body = c.new.result } in
-    start_typed c.args.checked.now frame c.args.key.now c.args.module.now.name params stmts c.requires.accepted c.requires.entering
-    (c.requires.defined ∙ ap (λ (ss : List Stmt). Some (of_module c.args.module.now.name params (pure_stmt_list ss))) (sym same)) (returns-clause-view c)
+    start_typed c.args.checked.now frame c.args.key.now c.args.called.now.name params stmts c.requires.accepted c.requires.entering
+    (c.requires.defined ∙ ap (λ (ss : List Stmt). Some (of_module c.args.called.now.name params (pure_stmt_list ss))) (sym same)) (returns-clause-view c)
 
 pub returns-clause-turns : goal.returns-clause-turns
 returns-clause-turns c = subst (λ (b : Contents). last_turns b.items + 64 * 1048576 ≤ 64 * 1048576) (sym c.new.ensures) (omega arith)
