@@ -156,16 +156,18 @@ mutual
       let a : Circuit = circuit_node words n x e in
       let b : Circuit = circuit_node words a.next y f in
       let c : Circuit = circuit_node words b.next z g in
-      record { few = omega (
-        arith,
-        length-append a.gates (joined b (joined c (pick_piece (slice_index a.word 0) b.word c.word c.next))).gates,
-        length-append b.gates (joined c (pick_piece (slice_index a.word 0) b.word c.word c.next)).gates,
-        length-append c.gates (pick_piece (slice_index a.word 0) b.word c.word c.next).gates,
-        (node_few words n x e).few,
-        (node_few words a.next y f).few,
-        (node_few words b.next z g).few,
-        (pick_few (slice_index a.word 0) b.word c.word c.next).few,
-      ) }
+      record {
+        few = omega (
+          arith,
+          length-append a.gates (joined b (joined c (pick_piece (slice_index a.word 0) b.word c.word c.next))).gates,
+          length-append b.gates (joined c (pick_piece (slice_index a.word 0) b.word c.word c.next)).gates,
+          length-append c.gates (pick_piece (slice_index a.word 0) b.word c.word c.next).gates,
+          (node_few words n x e).few,
+          (node_few words a.next y f).few,
+          (node_few words b.next z g).few,
+          (pick_few (slice_index a.word 0) b.word c.word c.next).few,
+        );
+      }
   node_few words n w (PureTyped.ext x e) =
       let a : Circuit = circuit_node words n x e in
       few_joined n a (ext_piece w a.word a.next) (node_few words n x e) (record { few = omega arith })

@@ -216,8 +216,10 @@ pub begin_if-requires : goal.begin_if-requires
 begin_if-requires c =
     let body = c.deref.result.now in
     let other = option_copied c.optional.result in
-    record { typed = act_is c.args.given.checked.now c.args.frame.now (pure_act c.args.task.now) (if_act c.in-If.test body other) c.args.todo.now.items
-    (if_act_is c.args.task.now c.in-If.test c.in-If.body c.in-If.other body other c.in-If.is c.deref.ensures c.optional.ensures) c.requires.typed }
+    record {
+      typed = act_is c.args.given.checked.now c.args.frame.now (pure_act c.args.task.now) (if_act c.in-If.test body other) c.args.todo.now.items
+          (if_act_is c.args.task.now c.in-If.test c.in-If.body c.in-If.other body other c.in-If.is c.deref.ensures c.optional.ensures) c.requires.typed;
+    }
 
 pub returns-in_ok-begin_if-in-If-clause-adds : goal.returns-in_ok-begin_if-in-If-clause-adds
 returns-in_ok-begin_if-in-If-clause-adds c =
@@ -271,9 +273,11 @@ pub begin_for-requires : goal.begin_for-requires
 begin_for-requires c =
     let first = option_copied c.optional-in-For-2.result in
     let rounds : Rounds = record { at = c.args.at; test = c.as_ref.result; body = c.deref-in-For.result; advance = c.optional-in-For.result } in
-    record { typed = act_is c.args.given.checked.now c.args.frame.now (pure_act c.args.task.now) (for_act first rounds) c.args.todo.now.items
-    (for_act_is c.args.task.now c.in-For.start c.in-For.test c.in-For.advance c.in-For.body first rounds c.in-For.is c.optional-in-For-2.ensures c.as_ref.ensures.value c.deref-in-For.ensures
-    c.optional-in-For.ensures) c.requires.typed }
+    record {
+      typed = act_is c.args.given.checked.now c.args.frame.now (pure_act c.args.task.now) (for_act first rounds) c.args.todo.now.items
+          (for_act_is c.args.task.now c.in-For.start c.in-For.test c.in-For.advance c.in-For.body first rounds c.in-For.is c.optional-in-For-2.ensures c.as_ref.ensures.value c.deref-in-For.ensures
+          c.optional-in-For.ensures) c.requires.typed;
+    }
 
 pub returns-in_ok-begin_for-in-For-clause-adds : goal.returns-in_ok-begin_for-in-For-clause-adds
 returns-in_ok-begin_for-in-For-clause-adds c =
@@ -293,8 +297,10 @@ returns-in_ok-begin_block-in-Block-clause-ok c =
 pub begin_block-requires : goal.begin_block-requires
 begin_block-requires c =
     let xs = c.as_slice-in-Block.result.now in
-    record { typed = act_is c.args.given.checked.now c.args.frame.now (pure_act c.args.task.now) (block_act xs) c.args.todo.now.items
-    (block_act_is c.args.task.now c.in-Block.stmts xs c.in-Block.is c.as_slice-in-Block.ensures.value) c.requires.typed }
+    record {
+      typed = act_is c.args.given.checked.now c.args.frame.now (pure_act c.args.task.now) (block_act xs) c.args.todo.now.items
+          (block_act_is c.args.task.now c.in-Block.stmts xs c.in-Block.is c.as_slice-in-Block.ensures.value) c.requires.typed;
+    }
 
 pub returns-in_ok-begin_block-in-Block-clause-adds : goal.returns-in_ok-begin_block-in-Block-clause-adds
 returns-in_ok-begin_block-in-Block-clause-adds c =

@@ -10,6 +10,6 @@ use Rattle.sc_elab.proofs.declare.declare_numbers.Given as goal
 abbrev pub invariant-loop-init : goal.invariant-loop-init
 invariant-loop-init l = record {
   goes : (choice : Choice) → Goes choice (declare_numbers l.sort (map pure_init l.inits) (view l.fn.frame)) l.fn.frame
-    (declare_numbers l.sort (map pure_init (drop l.init-index l.inits)) (view l.frame)) l.frame;
+      (declare_numbers l.sort (map pure_init (drop l.init-index l.inits)) (view l.frame)) l.frame;
   body : l.frame.body ≡ l.fn.frame.body;
 }

@@ -30,9 +30,9 @@ loop-param-preserved c =
     let d : Arg = Int (pos 0) in
     record {
       bound = c.loop-param.invariant.bound
-      ∙ bound_opened (drop i params) (drop (i + 1) params) rest _ (numbers_of c.loop-param.counts) (numbers_of c.with_arg-counts.result) (spread c.loop-param.scope) (spread c.declare_param.new.scope)
-      (grind (arith, common_steps, bound_more));
+          ∙ bound_opened (drop i params) (drop (i + 1) params) rest _ (numbers_of c.loop-param.counts) (numbers_of c.with_arg-counts.result) (spread c.loop-param.scope) (spread c.declare_param.new.scope)
+          (grind (arith, common_steps, bound_more));
       counted = ap (λ (n : Numbers). fold with_arg n (between 1 (length rest) rest)) c.with_arg-counts.ensures
-      ∙ sym (ap (fold with_arg (numbers_of c.loop-param.counts)) (first_rest rest d (omega arith)))
-      ∙ c.loop-param.invariant.counted;
+          ∙ sym (ap (fold with_arg (numbers_of c.loop-param.counts)) (first_rest rest d (omega arith)))
+          ∙ c.loop-param.invariant.counted;
     }

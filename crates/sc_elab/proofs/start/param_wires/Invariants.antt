@@ -12,6 +12,6 @@ use Rattle.sc_elab.proofs.start.param_wires.Given as goal
 abbrev pub invariant-loop-param : goal.invariant-loop-param
 invariant-loop-param l = record {
   bound : wire_params (map pure_param l.params) l.args (numbered (flat_map arg_classes l.args) no_wires) ([] ∷ [])
-    ≡ wire_params (map pure_param (drop l.param-index l.params)) l.rest (numbered (flat_map arg_classes l.rest) (numbers_of l.counts)) (spread l.scope ∷ []);
+      ≡ wire_params (map pure_param (drop l.param-index l.params)) l.rest (numbered (flat_map arg_classes l.rest) (numbers_of l.counts)) (spread l.scope ∷ []);
   counted : with_args (numbers_of l.counts) l.rest ≡ with_args no_wires l.args;
 }
