@@ -4,6 +4,7 @@ use Rattle.std.specs.Prelude.{slice_get, All}
 use Rattle.std.proofs.lemmas.List.Elements.{All-nil, All-weaker}
 use Rattle.sc_base.specs.NameTexts.{IsNameText}
 use Rattle.sc_gate.specs.Numbers.{no_wires}
+use Rattle.sc_deck.specs.declared.key.Key.{Key}
 use Rattle.sc_deck.specs.Decks.{IsWhole}
 use Rattle.sc_deck.specs.Keys.{main_key}
 use Rattle.sc_deck.specs.Modules.{Module, heights_of}
@@ -67,6 +68,12 @@ elaborated_ok t sound choice m m' number fresh keeps called =
       shallow = subst (All (λ height. height ≤ 256)) (sym (ap heights_of is ∙ heights_of-folded (instances t choice))) (all_shallow t sound.place sound.checked answer.0 choice);
       names = All-weaker (λ (b : Module). IsEntering t b.key) (λ b. IsNameText b.key.name) (λ b h. entering_named t sound b.key h) m'.deck keeps.entering;
     }
+
+-- the same of a key that is main's
+pub main_answered : (t : TypedSource) → IsSound t → (choice : Choice) (m m' : Machine) (key : Key) (number : ℕ) → IsFresh m → key ≡ main_key → KeepsBodies t m' → IsCalled choice (local (program_of t) 256 key) m number m'
+    → IsElaborated t choice m'.deck
+main_answered t sound choice m m' key number fresh same keeps called =
+    elaborated_ok t sound choice m m' number fresh keeps (subst (λ (k : Key). IsCalled choice (local (program_of t) 256 k) m number m') same called)
 
 -- MAIN IS REFUSED: so is the source
 pub elaborated_err : (t : TypedSource) → IsSound t → (choice : Choice) (m : Machine) (fault : ElabFault) → IsFresh m → IsRefusedCall choice (local (program_of t) 256 main_key) m fault → refusal t ≡ Some fault

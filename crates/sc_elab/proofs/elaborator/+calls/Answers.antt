@@ -1,5 +1,5 @@
 use Rattle.std.proofs.Common.{◌≡◌, ℕ, ◌<◌, ◌≤◌, ◌-◌, List, [], ◌∷◌, ◌++◌, length, Option, Some, None, refl, sym, ap, ◌∙◌, subst, arith, length-append}
-use Rattle.std.specs.Prelude.{map, slice_get, IfSome}
+use Rattle.std.specs.Prelude.{map, slice_get, slice_index, IfSome, IfNone}
 use Rattle.std.specs.FinMap.{empty}
 use Rattle.std.specs.Option.{option_map}
 use Rattle.std.proofs.lemmas.Result.{err_from_is_err_and, IfOk-weaker, IfErr-weaker}
@@ -13,9 +13,9 @@ use Rattle.sc_deck.specs.declared.key.Key.{Key}
 use Rattle.sc_deck.specs.declared.item.Item.{Item}
 use Rattle.sc_deck.specs.declared.item.Item.TheVariants as item
 use Rattle.sc_deck.specs.Bodies.{Contents, wires_of}
-use Rattle.sc_deck.specs.Decks.{CallsFit}
+use Rattle.sc_deck.specs.Decks.{CallsFit, IsNewKey}
 use Rattle.sc_deck.specs.Keys.{param_classes, params_of}
-use Rattle.sc_deck.specs.Modules.{Module as Instance, key_of}
+use Rattle.sc_deck.specs.Modules.{Module as Instance, key_of, heights_of}
 use Rattle.sc_deck.specs.Turns.{with_folded}
 use Rattle.sc_deck.specs.Unfolding.{numbered}
 use Rattle.sc_deck.proofs.CallLaws.{CallsFit-more}
@@ -32,6 +32,8 @@ use Rattle.sc_elab.specs.Pending.{doing, leaves}
 use Rattle.sc_elab.specs.Typings.{Takes, IsTypedBody, IsTypedCall}
 use Rattle.sc_meaning.specs.declared.fault.ElabFault.{ElabFault}
 use Rattle.sc_meaning.specs.Definitions.{Definition, definition}
+use Rattle.sc_meaning.specs.Instances.{number_in_deck}
+use Rattle.sc_meaning.specs.Kept.{In}
 use Rattle.sc_meaning.specs.Local.{local, local_body}
 use Rattle.sc_meaning.specs.Programs.{program_of, function_of}
 use Rattle.sc_meaning.specs.Run.{acts, start_state}
@@ -215,9 +217,6 @@ call_from-returns-clause-ok t c =
 
 -- ---- the body of a key
 
-pub body_of-unreachable : goal.body_of-unreachable
-body_of-unreachable t c = subst (λ (o : Option Definition). Takes o c.args.key.now) (sym c.in-None.ensures) c.requires.entering.takes
-
 pub body_of-start_frame-requires-clause-defined : goal.body_of-start_frame-requires-clause-defined
 body_of-start_frame-requires-clause-defined t c = sym c.in-Some.ensures ∙ ap (λ (d : Callee). Some (definition_by d)) c.in-Module.is
 
@@ -278,6 +277,9 @@ body_of-returns-in-Words-clause-ok t c =
     })
     c.function_body.ensures.ok
 
+pub body_of-returns-in-Words-clause-calls : goal.body_of-returns-in-Words-clause-calls
+body_of-returns-in-Words-clause-calls t c = IfOk-weaker c.function_body.result _ _ (λ body h. h c.args.machine.now.deck) c.function_body.ensures.calls
+
 pub body_of-returns-in-Words-clause-err : goal.body_of-returns-in-Words-clause-err
 body_of-returns-in-Words-clause-err t c =
     let program = program_of c.args.given.checked.now in
@@ -288,12 +290,12 @@ body_of-returns-in-Words-clause-err t c =
 
 -- ---- a call of a key
 
-pub call-returns-in_err-kept-clause-err : goal.call-returns-in_err-kept-clause-err
-call-returns-in_err-kept-clause-err t c =
+pub call-returns-in_err-number-clause-err : goal.call-returns-in_err-number-clause-err
+call-returns-in_err-number-clause-err t c =
     let p = err_from_is_err_and c.from_residual.result c.from_residual.ensures.1 in
     rw (p.1, p.2) (λ other.
-    subst (λ (f : ElabFault). IsRefusedCall c.args.given.choice (local (program_of c.args.given.checked.now) c.args.depth c.args.key) c.args.machine.now f) (sym c.in_err-kept.ensures.err)
-    (call_too_deep c.args.given.checked.now c.args.machine.now c.requires.kept c.args.key c.requires.entering c.in_err-kept.ensures.deep c.args.given.choice c.args.depth c.in_err-kept.ensures.high))
+    subst (λ (f : ElabFault). IsRefusedCall c.args.given.choice (local (program_of c.args.given.checked.now) c.args.depth c.args.key) c.args.machine.now f) (sym c.in_err-number.ensures.err)
+    (call_too_deep c.args.given.checked.now c.args.machine.now c.requires.kept c.args.key c.requires.entering c.in_err-number.ensures.deep c.args.given.choice c.args.depth c.in_err-number.ensures.high))
 
 pub call-returns-in-Some-clause-grows : goal.call-returns-in-Some-clause-grows
 call-returns-in-Some-clause-grows t c = grows_none c.args.machine.now.deck
@@ -301,12 +303,17 @@ call-returns-in-Some-clause-grows t c = grows_none c.args.machine.now.deck
 pub call-returns-in-Some-clause-key : goal.call-returns-in-Some-clause-key
 call-returns-in-Some-clause-key t c =
     let deck = c.args.machine.now.deck in
-    ap (λ (n : ℕ). option_map key_of (slice_get deck n)) c.in-Some.ensures.number ∙ key_there deck c.args.key c.in-Some.ensures.there
+    let number = subst (λ (o : Option ℕ). IfSome o (λ n. n ≡ number_in_deck deck c.args.key)) c.in-Some.is c.in_ok-number.ensures.number in
+    let there = subst (λ (o : Option ℕ). IfSome o (λ n. In deck c.args.key)) c.in-Some.is c.in_ok-number.ensures.there in
+    ap (λ (n : ℕ). option_map key_of (slice_get deck n)) number ∙ key_there deck c.args.key there
 
 pub call-returns-in-Some-clause-ok : goal.call-returns-in-Some-clause-ok
 call-returns-in-Some-clause-ok t c =
-    call_kept c.args.given.checked.now c.args.machine.now c.requires.kept c.args.key c.requires.entering c.in-Some.ensures.there c.requires.accepted c.args.given.choice c.in-Some.number c.args.depth
-    c.in-Some.ensures.number c.in-Some.ensures.low c.requires.depth
+    let deck = c.args.machine.now.deck in
+    let number = subst (λ (o : Option ℕ). IfSome o (λ n. n ≡ number_in_deck deck c.args.key)) c.in-Some.is c.in_ok-number.ensures.number in
+    let there = subst (λ (o : Option ℕ). IfSome o (λ n. In deck c.args.key)) c.in-Some.is c.in_ok-number.ensures.there in
+    let low = subst (λ (o : Option ℕ). IfSome o (λ n. slice_index (heights_of deck) n ≤ c.args.depth)) c.in-Some.is c.in_ok-number.ensures.low in
+    call_kept c.args.given.checked.now c.args.machine.now c.requires.kept c.args.key c.requires.entering there c.requires.accepted c.args.given.choice c.in-Some.number c.args.depth number low c.requires.depth
 
 pub call-returns-then-depth-eq0-clause-err : goal.call-returns-then-depth-eq0-clause-err
 call-returns-then-depth-eq0-clause-err t c = λ other. rw c.if-depth-eq0.true (call_deep c.args.given.choice (program_of c.args.given.checked.now) c.args.key c.args.machine.now c.requires.kept.few)
@@ -314,7 +321,7 @@ call-returns-then-depth-eq0-clause-err t c = λ other. rw c.if-depth-eq0.true (c
 pub call-returns-in_err-enter-clause-err : goal.call-returns-in_err-enter-clause-err
 call-returns-in_err-enter-clause-err t c =
     let program = program_of c.args.given.checked.now in
-    let p = err_from_is_err_and c.from_residual.result c.from_residual.ensures.1 in
+    let p = err_from_is_err_and c.from_residual-in_err-enter.result c.from_residual-in_err-enter.ensures.1 in
     rw (p.1, p.2) (λ other.
     refused_call_at c.args.given.choice program c.args.depth c.args.key c.args.machine.now _ c.if-depth-eq0.false
     (call_many c.args.given.choice program (c.args.depth - 1) c.args.key c.args.machine.now _ (c.in_err-enter.ensures.err other)))
@@ -338,18 +345,26 @@ pub call-push_body-requires : goal.call-push_body-requires
 call-push_body-requires t c =
     let source = c.args.given.checked.now in
     let low : c.args.depth - 1 ≤ 256 = let l = c.requires.depth in omega arith in
+    let none = subst (λ (o : Option ℕ). IfNone o (IsNewKey c.args.machine.now.deck c.args.key)) c.in_default.is c.in_ok-number.ensures.new in
     let new = new_still source c.requires.accepted c.args.given.choice (c.args.depth - 1) low c.args.key c.requires.entering c.args.machine.now c.enter.new.self c.body_of.new.machine c.in_ok-body.body.items c.in_ok-body.ensures.ok.own
-        c.in_default.ensures.new c.in_ok-enter.ensures.ok c.in_ok-enter.ensures.deck c.in_ok-body.ensures.ok.runs c.in_ok-body.ensures.kept in
+        none c.in_ok-enter.ensures.ok c.in_ok-enter.ensures.deck c.in_ok-body.ensures.ok.runs c.in_ok-body.ensures.kept in
     let room = room_for source c.requires.accepted c.args.given.choice (c.args.depth - 1) low c.args.key c.requires.entering c.args.machine.now c.enter.new.self c.body_of.new.machine c.in_ok-body.body.items c.in_ok-body.ensures.ok.own
-        c.in_default.ensures.new c.in_ok-enter.ensures.ok c.in_ok-enter.ensures.deck c.in_ok-body.ensures.ok.runs c.in_ok-body.ensures.kept c.len-number.ensures.sound in
-    (number_new c.body_of.new.machine.deck c.args.key new, (c.requires.entering.lengths, (c.in_ok-body.ensures.params, (room, c.in_ok-body.ensures.calls))))
+        none c.in_ok-enter.ensures.ok c.in_ok-enter.ensures.deck c.in_ok-body.ensures.ok.runs c.in_ok-body.ensures.kept c.len-number.ensures.sound in
+    record {
+      new = number_new c.body_of.new.machine.deck c.args.key new;
+      lengths = c.requires.entering.lengths;
+      params = c.in_ok-body.ensures.params;
+      room = room;
+      calls = c.in_ok-body.ensures.calls;
+    }
 
 pub call-returns-clause-kept : goal.call-returns-clause-kept
 call-returns-clause-kept t c =
     let source = c.args.given.checked.now in
     let low : c.args.depth - 1 ≤ 256 = let l = c.requires.depth in omega arith in
+    let none = subst (λ (o : Option ℕ). IfNone o (IsNewKey c.args.machine.now.deck c.args.key)) c.in_default.is c.in_ok-number.ensures.new in
     keeps_pushed source c.requires.accepted c.args.given.choice (c.args.depth - 1) low c.args.key c.requires.entering c.args.machine.now c.enter.new.self c.body_of.new.machine c.in_ok-body.body.items c.in_ok-body.ensures.ok.own
-    c.in_default.ensures.new c.in_ok-enter.ensures.ok c.in_ok-enter.ensures.deck c.in_ok-body.ensures.ok.runs c.in_ok-body.ensures.kept
+    none c.in_ok-enter.ensures.ok c.in_ok-enter.ensures.deck c.in_ok-body.ensures.ok.runs c.in_ok-body.ensures.kept
     (record c.body_of.new.machine { deck = c.push_body.new.self }) c.in_ok-push_body.ensures.pushed refl c.in_ok-body.ensures.folded
 
 pub call-returns-clause-grows : goal.call-returns-clause-grows
@@ -368,8 +383,9 @@ pub call-returns-clause-ok : goal.call-returns-clause-ok
 call-returns-clause-ok t c =
     let source = c.args.given.checked.now in
     let low : c.args.depth - 1 ≤ 256 = let l = c.requires.depth in omega arith in
+    let none = subst (λ (o : Option ℕ). IfNone o (IsNewKey c.args.machine.now.deck c.args.key)) c.in_default.is c.in_ok-number.ensures.new in
     let new = new_still source c.requires.accepted c.args.given.choice (c.args.depth - 1) low c.args.key c.requires.entering c.args.machine.now c.enter.new.self c.body_of.new.machine c.in_ok-body.body.items c.in_ok-body.ensures.ok.own
-        c.in_default.ensures.new c.in_ok-enter.ensures.ok c.in_ok-enter.ensures.deck c.in_ok-body.ensures.ok.runs c.in_ok-body.ensures.kept in
+        none c.in_ok-enter.ensures.ok c.in_ok-enter.ensures.deck c.in_ok-body.ensures.ok.runs c.in_ok-body.ensures.kept in
     let last : _ = record c.body_of.new.machine { deck = c.push_body.new.self } in
     called_at c.args.given.choice (program_of source) c.args.depth c.args.key c.args.machine.now last c.len-number.result c.if-depth-eq0.false
     (call_made c.args.given.choice (program_of source) (c.args.depth - 1) c.args.key c.args.machine.now c.enter.new.self c.body_of.new.machine last c.len-number.result c.in_ok-body.body.items c.in_ok-body.ensures.ok.own
