@@ -225,9 +225,22 @@ body_of-exec-requires t c =
     let f = c.in_ok-frame-in-Module.frame in
     let one : length f.numbers ≡ 1 =
     ap (λ (s : State). length s.numbers) c.in_ok-frame-in-Module.ensures.view ∙ length_number_params (map pure_param c.in-Module.called.now.params) c.args.key.now.args (empty ∷ []) in
-    let none : f.body.items ≡ [] = c.in_ok-frame-in-Module.ensures.items in
-    (omega arith, (c.requires.accepted, (c.requires.depth, (c.requires.kept, (omega arith,
-    (c.in_ok-frame-in-Module.ensures.typed c.as_slice.result c.as_slice.ensures, (c.in_ok-frame-in-Module.ensures.turns, (subst IsFolded (sym none) refl, subst (CallsFit c.args.machine.now.deck) (sym none) tt))))))))
+    let none : f.body.items ≡ [] = c.in_ok-frame-in-Module.ensures.items in (
+      omega arith,
+      (
+        c.requires.accepted,
+        (
+          c.requires.depth,
+          (
+            c.requires.kept,
+            (
+              omega arith,
+              (c.in_ok-frame-in-Module.ensures.typed c.as_slice.result c.as_slice.ensures, (c.in_ok-frame-in-Module.ensures.turns, (subst IsFolded (sym none) refl, subst (CallsFit c.args.machine.now.deck) (sym none) tt))),
+            ),
+          ),
+        ),
+      ),
+    )
 
 pub body_of-returns-in_ok-exec-in-Module-clause-ok : goal.body_of-returns-in_ok-exec-in-Module-clause-ok
 body_of-returns-in_ok-exec-in-Module-clause-ok t c =
@@ -347,9 +360,9 @@ call-push_body-requires t c =
     let low : c.args.depth - 1 ≤ 256 = let l = c.requires.depth in omega arith in
     let none = subst (λ (o : Option ℕ). IfNone o (IsNewKey c.args.machine.now.deck c.args.key)) c.in_default.is c.in_ok-number.ensures.new in
     let new = new_still source c.requires.accepted c.args.given.choice (c.args.depth - 1) low c.args.key c.requires.entering c.args.machine.now c.enter.new.self c.body_of.new.machine c.in_ok-body.body.items c.in_ok-body.ensures.ok.own
-        none c.in_ok-enter.ensures.ok c.in_ok-enter.ensures.deck c.in_ok-body.ensures.ok.runs c.in_ok-body.ensures.kept in
+    none c.in_ok-enter.ensures.ok c.in_ok-enter.ensures.deck c.in_ok-body.ensures.ok.runs c.in_ok-body.ensures.kept in
     let room = room_for source c.requires.accepted c.args.given.choice (c.args.depth - 1) low c.args.key c.requires.entering c.args.machine.now c.enter.new.self c.body_of.new.machine c.in_ok-body.body.items c.in_ok-body.ensures.ok.own
-        none c.in_ok-enter.ensures.ok c.in_ok-enter.ensures.deck c.in_ok-body.ensures.ok.runs c.in_ok-body.ensures.kept c.len-number.ensures.sound in
+    none c.in_ok-enter.ensures.ok c.in_ok-enter.ensures.deck c.in_ok-body.ensures.ok.runs c.in_ok-body.ensures.kept c.len-number.ensures.sound in
     record {
       new = number_new c.body_of.new.machine.deck c.args.key new;
       lengths = c.requires.entering.lengths;
@@ -385,7 +398,7 @@ call-returns-clause-ok t c =
     let low : c.args.depth - 1 ≤ 256 = let l = c.requires.depth in omega arith in
     let none = subst (λ (o : Option ℕ). IfNone o (IsNewKey c.args.machine.now.deck c.args.key)) c.in_default.is c.in_ok-number.ensures.new in
     let new = new_still source c.requires.accepted c.args.given.choice (c.args.depth - 1) low c.args.key c.requires.entering c.args.machine.now c.enter.new.self c.body_of.new.machine c.in_ok-body.body.items c.in_ok-body.ensures.ok.own
-        none c.in_ok-enter.ensures.ok c.in_ok-enter.ensures.deck c.in_ok-body.ensures.ok.runs c.in_ok-body.ensures.kept in
+    none c.in_ok-enter.ensures.ok c.in_ok-enter.ensures.deck c.in_ok-body.ensures.ok.runs c.in_ok-body.ensures.kept in
     let last : _ = record c.body_of.new.machine { deck = c.push_body.new.self } in
     called_at c.args.given.choice (program_of source) c.args.depth c.args.key c.args.machine.now last c.len-number.result c.if-depth-eq0.false
     (call_made c.args.given.choice (program_of source) (c.args.depth - 1) c.args.key c.args.machine.now c.enter.new.self c.body_of.new.machine last c.len-number.result c.in_ok-body.body.items c.in_ok-body.ensures.ok.own
