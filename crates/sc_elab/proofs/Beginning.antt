@@ -1,5 +1,5 @@
 -- How a statement begins: what it comes to, and what is put on the list.
-use Rattle.std.proofs.Common.{◌≡◌, ℕ, zero, suc, ◌+◌, ◌<◌, ◌≤◌, Bool, true, false, List, [], ◌∷◌, ◌++◌, length, Option, Some, None, Result, Ok, Err, get_or, refl, sym, ap, ◌∙◌, subst, arith, length-append}
+use Rattle.std.proofs.Common.{◌≡◌, ℕ, suc, ◌+◌, ◌<◌, ◌≤◌, true, false, List, [], ◌∷◌, ◌++◌, length, Option, Some, None, Result, Ok, Err, get_or, refl, sym, ap, ◌∙◌, arith, length-append}
 use Rattle.std.specs.Prelude.{option_map, map}
 use Rattle.std.specs.Borrow.{Bor}
 use Rattle.std.specs.List.{between}
@@ -32,14 +32,14 @@ use Rattle.sc_elab.specs.declared.todo.Rounds.{Rounds}
 use Rattle.sc_elab.specs.declared.todo.Request.{Request}
 use Rattle.sc_meaning.specs.Arguments.{Passed, prepared}
 use Rattle.sc_elab.specs.Callees.{Requests}
-use Rattle.sc_meaning.specs.Definitions.{Definition, Program, definition}
+use Rattle.sc_meaning.specs.Definitions.{Definition, Program}
 use Rattle.sc_elab.specs.Beginnings.{Begun}
 use Rattle.sc_elab.specs.Folding.{written}
 use Rattle.sc_elab.specs.Frames.{view, made, Advanced, StopsAt}
 use Rattle.sc_elab.specs.Gating.{measure_on, call_on}
 use Rattle.sc_meaning.specs.Local.{ran}
 use Rattle.sc_meaning.specs.Outcomes.{Outcome, Done, Stopped, then_do, given, leaving}
-use Rattle.sc_elab.specs.Pending.{held_by, round_of, looped, if_on, for_on, block_on, doing, pending, asked, after_asked, leaves, to_do, after_round}
+use Rattle.sc_elab.specs.Pending.{held_by, round_of, looped, if_on, for_on, block_on, doing, pending, asked, leaves, to_do, after_round}
 use Rattle.sc_meaning.specs.Run.{Callee, declare_wires, declare_numbers, set_number, step, act, acts, maybe, otherwise, choose, finish, loop, back_in, enter_with, call_named}
 use Rattle.sc_meaning.specs.States.{State, with_scope, without_scope, inside}
 use Rattle.sc_elab.specs.Stepping.{Steps, holds}

@@ -1,5 +1,5 @@
 -- A body stays typed: whatever its last part comes to, the parts that are put in its place are fine where the names are those of the body.
-use Rattle.std.proofs.Common.{◌≡◌, ℕ, zero, suc, List, [], ◌∷◌, ◌++◌, drop, Option, Some, None, Result, Ok, Err, refl, sym, ap, ◌∙◌, subst}
+use Rattle.std.proofs.Common.{◌≡◌, ℕ, zero, suc, List, [], ◌∷◌, ◌++◌, drop, Option, Some, None, Ok, Err, refl, sym, ap, ◌∙◌, subst}
 use Rattle.std.specs.Prelude.{option_map, map}
 use Rattle.std.specs.Borrow.{Bor}
 use Rattle.std.specs.Option.{option_copied}
@@ -31,9 +31,9 @@ use Rattle.sc_elab.specs.declared.todo.Todo.TheVariants.{Do, Loop, Rest, Leave}
 use Rattle.sc_elab.specs.Frames.{view, Runs}
 use Rattle.sc_elab.specs.Pending.{held_by, if_act, for_act, block_act, to_do, after_round}
 use Rattle.sc_elab.specs.Stepping.{StepsFrom, Steps}
-use Rattle.sc_elab.specs.Typings.{IsTyped, behind, behind_all, names_behind, IsFinePart, AreFineParts, IsTypedBody, IsTypedAct}
+use Rattle.sc_elab.specs.Typings.{IsTyped, behind, names_behind, IsFinePart, AreFineParts, IsTypedBody, IsTypedAct}
 use Rattle.sc_meaning.specs.Run.{declare_wires, declare_numbers, set_number}
-use Rattle.sc_meaning.specs.States.{State, with_scope, without_scope}
+use Rattle.sc_meaning.specs.States.{with_scope, without_scope}
 use Rattle.sc_elab.proofs.StatementParts.{more_parts}
 use Rattle.sc_elab.proofs.TodoTyping.{fine_last, Puts, puts}
 use Rattle.sc_elab.proofs.TypedParts.{wires_typed, numbers_typed, set_typed, enter_typed, leave_typed, runs_leaves}

@@ -1,5 +1,5 @@
 -- Calls as parts of a body: a gate is applied, or the call of a definition is come to.
-use Rattle.std.proofs.Common.{◌≡◌, ℕ, ◌≤◌, List, [], ◌∷◌, Option, Some, None, Result, Ok, Err, refl, sym, ap, ◌∙◌, subst}
+use Rattle.std.proofs.Common.{◌≡◌, ℕ, ◌≤◌, List, [], ◌∷◌, Option, Some, None, Err, refl, sym, ap, ◌∙◌, subst}
 use Rattle.std.specs.Prelude.{map, IfOk}
 use Rattle.sc_base.specs.declared.GateName.{GateName}
 use Rattle.sc_gate.specs.Gates.{class_of, AreDistinct}
@@ -26,8 +26,7 @@ use Rattle.sc_elab.specs.Callees.{Requests}
 use Rattle.sc_meaning.specs.Definitions.{Definition, Program, definition}
 use Rattle.sc_elab.specs.Frames.{view, Runs, IsRefused, Advanced, StopsAt}
 use Rattle.sc_elab.specs.Gating.{gate_on_args, call_on}
-use Rattle.sc_meaning.specs.Outcomes.{Outcome, Done, Stopped}
-use Rattle.sc_elab.specs.Pending.{asked}
+use Rattle.sc_meaning.specs.Outcomes.{Outcome, Done}
 use Rattle.sc_meaning.specs.Programs.{program_of}
 use Rattle.sc_meaning.specs.Run.{Callee, measured, call_named}
 use Rattle.sc_meaning.specs.States.{State}

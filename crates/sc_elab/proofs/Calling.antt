@@ -1,6 +1,6 @@
 -- Calls: a key that has returned; one that is entered, whose body is run and added to the deck.
-use Rattle.std.proofs.Common.{◌≡◌, ◌≢◌, ℕ, zero, suc, ◌+◌, ◌-◌, ◌<◌, ◌≤◌, Bool, true, false, cond, List, [], ◌∷◌, ◌++◌, length, Option, Some, None, Result, Ok, Err, refl, sym, ap, ◌∙◌, subst, arith, append-nil, append_assoc}
-use Rattle.std.specs.Prelude.{nat_lt, slice_index, map, All}
+use Rattle.std.proofs.Common.{◌≡◌, ◌≢◌, ℕ, suc, ◌-◌, ◌<◌, ◌≤◌, Bool, true, false, cond, List, [], ◌∷◌, ◌++◌, length, Option, Some, Result, Ok, Err, refl, sym, ap, ◌∙◌, subst, arith, append-nil, append_assoc}
+use Rattle.std.specs.Prelude.{nat_lt, slice_index, All}
 use Rattle.std.specs.Option.{option_map}
 use Rattle.std.proofs.lemmas.List.{map-append}
 use Rattle.std.proofs.lemmas.List.Elements.{All-push}
@@ -15,7 +15,7 @@ use Rattle.sc_deck.specs.declared.item.Item.{Item}
 use Rattle.sc_deck.specs.declared.item.Item.TheVariants as item
 use Rattle.sc_deck.specs.Bodies.{Contents, wires_of}
 use Rattle.sc_deck.specs.Decks.{IsDeck, IsNewKey}
-use Rattle.sc_deck.specs.Events.{Event, Enter, Return}
+use Rattle.sc_deck.specs.Events.{Enter, Return}
 use Rattle.sc_deck.specs.Keys.{param_classes, params_of}
 use Rattle.sc_deck.specs.Modules.{Module, heights_of}
 use Rattle.sc_deck.specs.Unfolding.{numbered}
@@ -32,7 +32,7 @@ use Rattle.sc_elab.specs.Frames.{view, made}
 use Rattle.sc_elab.specs.FunctionBodies.{function_on, MakesBody, MakesNone}
 use Rattle.sc_meaning.specs.Instances.{with_key, with_module, number_in_deck}
 use Rattle.sc_meaning.specs.Kept.{In, Seen, Held}
-use Rattle.sc_meaning.specs.Local.{Half, Made, make, make_one, with_half, with_entry, unless_many, ran, local_body, local}
+use Rattle.sc_meaning.specs.Local.{Half, Made, with_half, with_entry, ran, local_body, local}
 use Rattle.sc_elab.specs.Machines.{kept, around, IsCalled, IsRefusedCall, IsEntered, RunsOn, IsRefusedOn, AreHeld, KeepsBodies, GrowsTo}
 use Rattle.sc_meaning.specs.Outcomes.{Outcome, Done, Stopped, after, then_do, leaving}
 use Rattle.sc_meaning.specs.Programs.{program_of}
@@ -50,7 +50,7 @@ use Rattle.sc_meaning.proofs.Grown.{entry_is}
 use Rattle.sc_meaning.proofs.Heights.{seen_self}
 use Rattle.sc_meaning.proofs.Kept.{stands_for, kept_too_deep}
 use Rattle.sc_meaning.proofs.Opening.{local_is, zero_is, few_is}
-use Rattle.sc_meaning.proofs.Ran.{many, ran_after, ran_next, ran_stop, ran_one, ran_done, ran_fault}
+use Rattle.sc_meaning.proofs.Ran.{many, ran_after, ran_next, ran_stop, ran_one, ran_fault}
 
 -- an entering is the entering, the body and the return
 entered_is : (key : Key) (wires : List Wire) (o : Outcome Numbers) → entered key wires o ≡ after (Enter key wires ∷ []) (then_do o (λ next. Done (Return key ∷ []) next))

@@ -1,11 +1,11 @@
 -- Declared wires, one name after another.
-use Rattle.std.proofs.Common.{◌≡◌, ℕ, ◌+◌, ◌<◌, List, [], ◌∷◌, length, get_or, drop, Result, Ok, Err, refl, sym, ap, ◌∙◌}
+use Rattle.std.proofs.Common.{◌≡◌, ℕ, ◌+◌, ◌<◌, List, [], ◌∷◌, length, get_or, drop, Result, Ok, Err, sym, ap, ◌∙◌}
 use Rattle.std.specs.Prelude.{ℤ, map, option_map}
 use Rattle.sc_base.specs.declared.Class.{Class}
 use Rattle.sc_syntax.specs.declared.Decl.{Decl}
 use Rattle.sc_syntax.specs.declared.Init.{Init}
 use Rattle.sc_syntax.specs.declared.NumSort.{NumSort}
-use Rattle.sc_syntax.specs.Alike.{PureNamed, pure_expr, pure_decl, pure_init}
+use Rattle.sc_syntax.specs.Alike.{pure_expr, pure_decl, pure_init}
 use Rattle.sc_value.specs.declared.Value.{Value}
 use Rattle.sc_meaning.specs.declared.fault.ElabFault.{ElabFault}
 use Rattle.sc_meaning.specs.Outcomes.{Outcome, Stopped, then_do, given}

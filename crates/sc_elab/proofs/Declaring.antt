@@ -1,20 +1,18 @@
 -- Declarations, as the code makes them.
-use Rattle.std.proofs.Common.{◌≡◌, ℕ, zero, suc, ◌+◌, ◌-◌, ◌<◌, ◌≤◌, Bool, true, false, cond, List, [], ◌∷◌, ◌++◌, length, Option, Some, None, Result, Ok, Err, refl, sym, ap, ◌∙◌, arith}
-use Rattle.std.specs.Prelude.{ℤ, pos, negsuc, nat_le, map, option_map}
+use Rattle.std.proofs.Common.{◌≡◌, ℕ, zero, suc, ◌+◌, ◌<◌, ◌≤◌, Bool, true, false, cond, List, [], ◌∷◌, refl, ap, ◌∙◌, arith}
+use Rattle.std.specs.Prelude.{pos, nat_le}
 use Rattle.std.proofs.lemmas.Bool.Decides.{nat_tests}
 use Rattle.sc_base.specs.declared.Class.{Class}
 use Rattle.sc_base.specs.declared.Class.TheVariants.{Q, C}
 use Rattle.sc_gate.specs.Numbers.{Numbers, number_of, with_more, both}
 use Rattle.sc_syntax.specs.declared.Name.{Name}
-use Rattle.sc_deck.specs.declared.item.Item.{Item}
 use Rattle.sc_deck.specs.declared.item.Item.TheVariants as item
 use Rattle.sc_deck.specs.Bodies.{Contents, wires_of, with_item}
 use Rattle.sc_deck.specs.Events.{Fresh}
 use Rattle.sc_deck.specs.Unfolding.{wires_from}
 use Rattle.sc_deck.proofs.BodyLemmas.{after_items-push}
 use Rattle.sc_meaning.specs.declared.choice.Choice.{Choice}
-use Rattle.sc_meaning.specs.declared.fault.ElabFault.{ElabFault}
-use Rattle.sc_meaning.specs.declared.fault.ElabFault.TheVariants.{TooWide, BadSize}
+use Rattle.sc_meaning.specs.declared.fault.ElabFault.TheVariants.{TooWide}
 use Rattle.sc_elab.specs.declared.frame.Frame.{Frame}
 use Rattle.sc_elab.specs.Folding.{written}
 use Rattle.sc_elab.specs.Frames.{view, names_of, Runs, IsRefused}

@@ -1,9 +1,8 @@
 -- A body with its calls, part by part.
-use Rattle.std.proofs.Common.{◌≡◌, ℕ, zero, suc, ◌+◌, ◌*◌, ◌<◌, ◌≤◌, Bool, true, false, cond, List, [], ◌∷◌, ◌++◌, length, Option, Some, None, Result, Ok, Err, refl, sym, ap, ◌∙◌, subst, arith}
-use Rattle.std.specs.Prelude.{nat_lt, map, slice_get, IsSomeAnd}
+use Rattle.std.proofs.Common.{◌≡◌, ℕ, ◌+◌, ◌*◌, ◌≤◌, Bool, true, false, cond, List, [], ◌∷◌, ◌++◌, length, Option, Some, None, Result, Ok, Err, refl, sym, ap, ◌∙◌, subst, arith}
+use Rattle.std.specs.Prelude.{map, slice_get, IsSomeAnd}
 use Rattle.std.specs.Option.{option_map}
 use Rattle.std.specs.Borrow.{Bor}
-use Rattle.std.proofs.lemmas.Bool.Decides.{nat_tests}
 use Rattle.sc_gate.specs.declared.gate.Wire.{Wire}
 use Rattle.sc_gate.specs.Gates.{class_of}
 use Rattle.sc_gate.specs.Numbers.{Numbers, both}
@@ -12,7 +11,6 @@ use Rattle.sc_deck.specs.declared.item.Item.{Item}
 use Rattle.sc_deck.specs.declared.item.Item.TheVariants as item
 use Rattle.sc_deck.specs.Bodies.{Contents, wires_of}
 use Rattle.sc_deck.specs.Decks.{CallFits, CallsFit}
-use Rattle.sc_deck.specs.Events.{Event}
 use Rattle.sc_deck.specs.Keys.{param_classes}
 use Rattle.sc_deck.specs.Modules.{Module, key_of}
 use Rattle.sc_deck.specs.Turns.{last_turns, with_folded}
@@ -33,8 +31,8 @@ use Rattle.sc_elab.specs.declared.todo.Request.{Request}
 use Rattle.sc_meaning.specs.Definitions.{Program}
 use Rattle.sc_elab.specs.Folding.{written, written_modules, IsFolded, HasRoom}
 use Rattle.sc_elab.specs.Frames.{view, made, Advanced, StopsAt}
-use Rattle.sc_meaning.specs.Local.{Half, Made, make, with_half, ran}
-use Rattle.sc_elab.specs.Machines.{kept, around, IsCalled, IsRefusedCall, RunsOn, IsRefusedOn}
+use Rattle.sc_meaning.specs.Local.{Half, Made, make, ran}
+use Rattle.sc_elab.specs.Machines.{around, IsCalled, IsRefusedCall, RunsOn, IsRefusedOn}
 use Rattle.sc_meaning.specs.Outcomes.{Outcome, Done, Stopped, then_do, leaving}
 use Rattle.sc_elab.specs.Pending.{doing, pending, asked, after_asked}
 use Rattle.sc_meaning.specs.Run.{Callee, finish, back_in, acts}

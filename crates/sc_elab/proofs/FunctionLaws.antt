@@ -1,6 +1,6 @@
 -- The bodies of classical functions.
-use Rattle.std.proofs.Common.{◌≡◌, ℕ, zero, suc, ◌+◌, ◌<◌, ◌≤◌, Bool, true, false, cond, List, [], ◌∷◌, ◌++◌, length, get_or, take, Option, Some, None, Result, Ok, Err, refl, sym, ap, ◌∙◌, subst, arith, append-nil, append_assoc, length-append}
-use Rattle.std.specs.Prelude.{nat_lt, nat_le, map, flat_map, fold, replicate, sum, option_map, option_to_list}
+use Rattle.std.proofs.Common.{◌≡◌, ℕ, zero, suc, ◌+◌, ◌<◌, ◌≤◌, Bool, cond, List, [], ◌∷◌, ◌++◌, length, get_or, take, Option, Some, None, Ok, Err, refl, sym, ap, ◌∙◌, subst, arith, append-nil, append_assoc}
+use Rattle.std.specs.Prelude.{nat_le, map, flat_map, fold, replicate, sum, option_to_list}
 use Rattle.std.specs.List.{AllByRecursion}
 use Rattle.std.proofs.lemmas.List.{replicate-append-replicate, take_more}
 use Rattle.std.proofs.lemmas.Grind.{flat_map-append}
@@ -10,8 +10,7 @@ use Rattle.sc_base.specs.declared.Class.TheVariants.{Q, C}
 use Rattle.sc_gate.specs.declared.gate.Wire.{Wire}
 use Rattle.sc_gate.specs.declared.gate.Kind.{Kind}
 use Rattle.sc_gate.specs.declared.gate.Gate.{Gate}
-use Rattle.sc_gate.specs.Gates.{operands}
-use Rattle.sc_gate.specs.Numbers.{Numbers, number_of, both, no_wires, with_more, IsThere, AreThere}
+use Rattle.sc_gate.specs.Numbers.{Numbers, number_of, both, no_wires, with_more, IsThere}
 use Rattle.sc_gate.specs.Renaming.{rename_gate}
 use Rattle.sc_syntax.specs.declared.Name.{Name}
 use Rattle.sc_deck.specs.declared.key.Arg.{Arg}
@@ -20,8 +19,8 @@ use Rattle.sc_deck.specs.declared.key.Key.{Key}
 use Rattle.sc_deck.specs.declared.item.Item.{Item}
 use Rattle.sc_deck.specs.declared.item.Item.TheVariants as item
 use Rattle.sc_deck.specs.Bodies.{Contents, IsBody, ItemsFit, after_items, wires_of}
-use Rattle.sc_deck.specs.Events.{Event, Fresh, Apply}
-use Rattle.sc_deck.specs.Items.{GateFits, ItemFits, after_item}
+use Rattle.sc_deck.specs.Events.{Event, Apply}
+use Rattle.sc_deck.specs.Items.{GateFits, after_item}
 use Rattle.sc_deck.specs.Keys.{arg_classes, with_arg, param_classes, params_of}
 use Rattle.sc_deck.specs.Decks.{CallsFit}
 use Rattle.sc_deck.specs.Modules.{Module}
@@ -35,7 +34,6 @@ use Rattle.sc_word.specs.Typed.{TypedWords}
 use Rattle.sc_rev.specs.BitBodies.{scratch_items, gate_items, reversible_body}
 use Rattle.sc_rev.specs.Functions.{operands_of, gates_of}
 use Rattle.sc_meaning.specs.declared.choice.Choice.{Choice}
-use Rattle.sc_meaning.specs.declared.fault.ElabFault.{ElabFault}
 use Rattle.sc_meaning.specs.declared.fault.ElabFault.TheVariants.{TooWide, TooManyInstances}
 use Rattle.sc_meaning.specs.Definitions.{Function}
 use Rattle.sc_elab.specs.Folding.{written, IsFolded}

@@ -1,5 +1,5 @@
 -- The circuit of a classical function has at most five gates for each wire that it takes, so its body has few items.
-use Rattle.std.proofs.Common.{◌≡◌, ℕ, zero, suc, ◌+◌, ◌-◌, ◌*◌, ◌≤◌, Bool, true, false, List, [], ◌∷◌, ◌++◌, length, map, take, reverse, Option, Some, None, refl, sym, ap, ◌∙◌, subst, arith, length-append}
+use Rattle.std.proofs.Common.{◌≡◌, ℕ, zero, suc, ◌+◌, ◌-◌, ◌*◌, ◌≤◌, Bool, true, false, List, [], ◌∷◌, ◌++◌, length, map, take, reverse, Option, Some, None, refl, ap, arith, length-append}
 use Rattle.std.specs.Prelude.{◌/◌, ◌%◌, nat_eq, if◌then◌else◌, sum, slice_index}
 use Rattle.std.proofs.lemmas.List.{length-map, length-reverse, length-take}
 use Rattle.sc_syntax.specs.declared.WordOp.{WordOp}
@@ -15,10 +15,9 @@ use Rattle.sc_rev.specs.declared.bit_gate.BitGate.{BitGate}
 use Rattle.sc_rev.specs.declared.bit_gate.BitGate.TheVariants.{X}
 use Rattle.sc_rev.specs.BitBodies.{scratch_items, gate_items, reversible_body}
 use Rattle.sc_rev.specs.Cells.{gate_of, copies, each, not_cell, and_cell, xor_cell, or_cell, same_cell, carry_in, carry_on, rows}
-use Rattle.sc_rev.specs.Circuits.{Circuit, joined, then_piece, each_piece, not_piece, adder_piece, add_piece, sub_piece, less_piece, chain_rest, chain_gates, all_piece, equal_piece, literal_gates, literal_piece, pick_gates, pick_piece, left_piece, right_piece, ext_piece, low_piece, part_piece, mul_rest, mul_piece}
+use Rattle.sc_rev.specs.Circuits.{Circuit, joined, then_piece, each_piece, not_piece, adder_piece, add_piece, sub_piece, less_piece, chain_rest, chain_gates, all_piece, equal_piece, literal_gates, pick_gates, pick_piece, left_piece, right_piece, ext_piece, low_piece, part_piece, mul_rest, mul_piece}
 use Rattle.sc_rev.specs.Functions.{op_piece, linked, shift_piece, shifted, circuit_node, circuit_row, circuit, circuit_all, words_from, operands_of, compute, steps_of, gates_of}
 use Rattle.sc_rev.proofs.Counted.{compute_takes}
-use Rattle.sc_rev.proofs.Makes.{fresh_length}
 
 -- from n on it has at most five gates for each wire that it takes
 record Few (n : ℕ) (c : Circuit) : Type 0 where

@@ -1,24 +1,20 @@
 -- What the code has done of a part without calls.
-use Rattle.std.proofs.Common.{◌≡◌, ℕ, ◌+◌, ◌<◌, ◌≤◌, Bool, true, false, List, [], ◌∷◌, ◌++◌, length, Result, Ok, Err, refl, sym, ap, ◌∙◌, subst}
-use Rattle.std.specs.Prelude.{nat_lt, map}
+use Rattle.std.proofs.Common.{◌≡◌, ℕ, [], ◌∷◌, ◌++◌, Ok, sym, ap, ◌∙◌}
+use Rattle.std.specs.Prelude.{map}
 use Rattle.sc_base.specs.declared.Class.{Class}
-use Rattle.sc_gate.specs.declared.gate.Wire.{Wire}
 use Rattle.sc_gate.specs.declared.gate.Gate.{Gate}
-use Rattle.sc_deck.specs.declared.item.Item.{Item}
 use Rattle.sc_deck.specs.declared.item.Item.TheVariants as item
-use Rattle.sc_deck.specs.declared.key.Key.{Key}
-use Rattle.sc_deck.specs.Events.{Event, Fresh, Apply}
-use Rattle.sc_deck.specs.Modules.{Module}
+use Rattle.sc_deck.specs.Events.{Fresh, Apply}
 use Rattle.sc_meaning.specs.declared.choice.Choice.{Choice}
 use Rattle.sc_meaning.specs.declared.fault.ElabFault.{ElabFault}
 use Rattle.sc_elab.specs.declared.frame.Frame.{Frame}
 use Rattle.sc_elab.specs.Folding.{written}
 use Rattle.sc_elab.specs.Frames.{view, made, Everywhere, Runs, IsRefused}
 use Rattle.sc_meaning.specs.Instances.{chosen}
-use Rattle.sc_meaning.specs.Local.{Half, Made, make_one, ran, unless_many}
-use Rattle.sc_meaning.specs.Outcomes.{Outcome, Done, Stopped, then_do, given}
+use Rattle.sc_meaning.specs.Local.{ran}
+use Rattle.sc_meaning.specs.Outcomes.{Outcome, Done, Stopped, then_do}
 use Rattle.sc_meaning.specs.States.{State}
-use Rattle.sc_meaning.proofs.Ran.{many, ran_next, ran_stop, ran_done, ran_fault, ran_one}
+use Rattle.sc_meaning.proofs.Ran.{ran_next, ran_stop, ran_done, ran_fault, ran_one}
 
 -- the whole has come to the rest
 abbrev pub Goes : Choice → Outcome State → Frame → Outcome State → Frame → Type 0

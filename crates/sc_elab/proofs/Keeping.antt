@@ -1,5 +1,5 @@
 -- Declarations, settings, gates and measurements take no step, and enter and leave no scope.
-use Rattle.std.proofs.Common.{◌≡◌, ℕ, zero, suc, ◌+◌, ◌<◌, ◌≤◌, Bool, true, false, cond, List, [], ◌∷◌, ◌++◌, length, Option, Some, None, Result, Ok, Err, refl, sym, ap, ◌∙◌, arith}
+use Rattle.std.proofs.Common.{◌≡◌, ℕ, zero, suc, ◌+◌, Bool, true, false, cond, List, [], ◌∷◌, ◌++◌, length, Option, Result, Ok, Err, refl, ap, ◌∙◌}
 use Rattle.std.specs.Prelude.{ℤ, pos, negsuc, nat_le}
 use Rattle.std.specs.FinMap.{contains_key, insert}
 use Rattle.sc_base.specs.declared.Place.{Place}
@@ -10,7 +10,7 @@ use Rattle.sc_syntax.specs.declared.SetOp.{SetOp}
 use Rattle.sc_syntax.specs.Alike.{PureExpr, PureNamed, PureParam}
 use Rattle.sc_value.specs.declared.Value.{Value}
 use Rattle.sc_value.specs.declared.Value.TheVariants as value
-use Rattle.sc_value.specs.Scopes.{Scope, Scopes, with_declared, with_set}
+use Rattle.sc_value.specs.Scopes.{Scopes, with_declared, with_set}
 use Rattle.sc_deck.specs.declared.Arg.{Arg}
 use Rattle.sc_deck.specs.declared.Arg.TheVariants as arg
 use Rattle.sc_deck.specs.Events.{Event, Fresh}

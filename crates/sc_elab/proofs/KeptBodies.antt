@@ -1,8 +1,7 @@
 -- What is known of the bodies of a deck: one stands for another entering of its key, or goes too deep; and a body that is run is added.
-use Rattle.std.proofs.Common.{◌≡◌, ℕ, zero, suc, ◌+◌, ◌<◌, ◌≤◌, ◌⊎◌, inl, inr, List, [], ◌∷◌, ◌++◌, map, length, Option, Some, None, Result, Ok, Err, refl, sym, ap, ◌∙◌, subst, arith, length-append}
-use Rattle.std.specs.Prelude.{slice_get, slice_index, flat_map, All}
+use Rattle.std.proofs.Common.{◌≡◌, ℕ, suc, ◌+◌, ◌<◌, ◌≤◌, ◌⊎◌, inl, inr, List, [], ◌∷◌, ◌++◌, map, length, Option, Some, None, Result, Ok, Err, refl, sym, ap, ◌∙◌, subst, arith, length-append}
+use Rattle.std.specs.Prelude.{slice_get, slice_index, flat_map}
 use Rattle.std.proofs.lemmas.Bool.{cases_lt}
-use Rattle.sc_gate.specs.declared.gate.Wire.{Wire}
 use Rattle.sc_gate.specs.Numbers.{Numbers}
 use Rattle.sc_types.specs.Accepted.{IsAccepted}
 use Rattle.sc_types.specs.Typing.{TypedSource}
@@ -25,7 +24,7 @@ use Rattle.sc_meaning.specs.Arguments.{want_of}
 use Rattle.sc_meaning.specs.Definitions.{Definition, of_module, of_function, Program, definition}
 use Rattle.sc_meaning.specs.Instances.{with_key, entered_keys, with_module, number_in_deck}
 use Rattle.sc_meaning.specs.Kept.{IsArgOf, AreArgsOf, FitsBy, In, Seen, Held, made_of}
-use Rattle.sc_meaning.specs.Local.{local_body, local, Half, Made, half_items, make, ran}
+use Rattle.sc_meaning.specs.Local.{local_body, local, Made, half_items, make, ran}
 use Rattle.sc_meaning.specs.Outcomes.{Outcome, Done, Stopped}
 use Rattle.sc_meaning.specs.Programs.{program_of}
 use Rattle.sc_meaning.proofs.Fitting.{accepted_fits}
@@ -39,7 +38,6 @@ use Rattle.sc_meaning.proofs.Ran.{many, few_by}
 use Rattle.sc_meaning.proofs.Sharing.{Shares, body_shares}
 use Rattle.sc_meaning.proofs.Top.{make_keys}
 use Rattle.sc_elab.specs.Frames.{made}
-use Rattle.sc_elab.specs.FunctionBodies.{HasWidths}
 use Rattle.sc_elab.specs.Machines.{AreHeld}
 use Rattle.sc_elab.specs.Typings.{ArgFits, ArgsFit, Takes, IsEntering}
 use Rattle.sc_elab.proofs.FunctionLaws.{classes_of}

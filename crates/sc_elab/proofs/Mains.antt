@@ -1,6 +1,6 @@
 -- A checked source: its main is entered without arguments, and each key that it enters has the name of a part.
-use Rattle.std.proofs.Common.{◌≡◌, ℕ, zero, suc, ◌≤◌, Bool, true, false, cond, List, [], ◌∷◌, Option, Some, None, refl, sym, ap, ◌∙◌, subst, arith}
-use Rattle.std.specs.Prelude.{map, slice_get, option_map, All}
+use Rattle.std.proofs.Common.{◌≡◌, ℕ, zero, suc, Bool, true, false, cond, List, [], ◌∷◌, Option, Some, None, refl, sym, ap, ◌∙◌, subst, arith}
+use Rattle.std.specs.Prelude.{map, slice_get, option_map}
 use Rattle.std.specs.Cmp.Lexicographic.{same_text, bytes_decides}
 use Rattle.std.proofs.lemmas.List.Elements.{All-nil}
 use Rattle.sc_base.specs.NameTexts.{IsNameText}
@@ -8,7 +8,7 @@ use Rattle.sc_gate.specs.Numbers.{both, no_wires}
 use Rattle.sc_syntax.specs.declared.Param.{Param}
 use Rattle.sc_syntax.specs.declared.Part.{Part}
 use Rattle.sc_syntax.specs.declared.Part.TheVariants as part
-use Rattle.sc_syntax.specs.Alike.{PurePart, pure_param, pure_part}
+use Rattle.sc_syntax.specs.Alike.{pure_param, pure_part}
 use Rattle.sc_syntax.specs.Formed.{IsFormedPart}
 use Rattle.sc_deck.specs.declared.key.Key.{Key}
 use Rattle.sc_deck.specs.Keys.{HasLength, main_key}

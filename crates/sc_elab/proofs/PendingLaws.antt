@@ -1,29 +1,17 @@
 -- A list of what is still to do, part by part.
-use Rattle.std.proofs.Common.{◌≡◌, ℕ, suc, ◌+◌, ◌<◌, ◌≤◌, Bool, true, false, List, [], ◌∷◌, ◌++◌, length, Option, Some, None, Result, Ok, Err, refl, sym, ap, ◌∙◌, subst, arith}
-use Rattle.std.specs.Prelude.{option_map, nat_lt}
-use Rattle.std.specs.Option.{option_copied}
-use Rattle.sc_base.specs.declared.Place.{Place}
-use Rattle.sc_syntax.specs.declared.Stmt.{Stmt}
-use Rattle.sc_syntax.specs.Alike.{PureExpr, PureAct, PureHeld, pure_act, pure_expr}
-use Rattle.sc_value.specs.declared.Value.{Value}
-use Rattle.sc_value.specs.Numbers.{is_true}
-use Rattle.sc_deck.specs.Modules.{Module}
-use Rattle.sc_deck.specs.declared.key.Key.{Key}
-use Rattle.sc_deck.specs.Events.{Event}
+use Rattle.std.proofs.Common.{◌≡◌, List, [], ◌∷◌, ◌++◌, Option, Some, None, refl, sym, ap, ◌∙◌}
 use Rattle.sc_meaning.specs.declared.choice.Choice.{Choice}
-use Rattle.sc_meaning.specs.declared.fault.ElabFault.{ElabFault}
 use Rattle.sc_elab.specs.declared.frame.Frame.{Frame}
 use Rattle.sc_elab.specs.declared.todo.Todo.{Todo}
-use Rattle.sc_elab.specs.declared.todo.Todo.TheVariants.{Do, Loop, Rest, Leave}
+use Rattle.sc_elab.specs.declared.todo.Todo.TheVariants.{Leave}
 use Rattle.sc_elab.specs.declared.todo.Request.{Request}
-use Rattle.sc_elab.specs.declared.todo.Rounds.{Rounds}
 use Rattle.sc_meaning.specs.Definitions.{Program}
 use Rattle.sc_elab.specs.Folding.{written}
-use Rattle.sc_elab.specs.Frames.{view, made, Runs, IsRefused, Advanced, StopsAt}
-use Rattle.sc_meaning.specs.Local.{Half, Made, ran}
-use Rattle.sc_meaning.specs.Outcomes.{Outcome, Done, Stopped, after, then_do, given, leaving}
-use Rattle.sc_elab.specs.Pending.{held_by, round_of, looped, doing, pending, asked, after_asked, leaves}
-use Rattle.sc_meaning.specs.Run.{Callee, step, finish, act, acts, maybe, loop, tested}
+use Rattle.sc_elab.specs.Frames.{view, made, Runs, Advanced}
+use Rattle.sc_meaning.specs.Local.{ran}
+use Rattle.sc_meaning.specs.Outcomes.{Outcome, Done, then_do, leaving}
+use Rattle.sc_elab.specs.Pending.{doing, pending, asked}
+use Rattle.sc_meaning.specs.Run.{Callee, finish}
 use Rattle.sc_meaning.specs.States.{State, with_scope, without_scope, inside}
 use Rattle.sc_meaning.proofs.Ran.{after_none, ran_next, then_then, then_none, leaving_is}
 

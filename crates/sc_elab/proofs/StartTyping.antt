@@ -1,10 +1,9 @@
 -- The body of a checked module starts with the names of its parameters.
-use Rattle.std.proofs.Common.{◌≡◌, ℕ, zero, suc, ◌+◌, ◌<◌, ◌≤◌, List, [], ◌∷◌, length, map, Option, Some, None, refl, sym, ap, ◌∙◌, subst, arith}
+use Rattle.std.proofs.Common.{◌≡◌, ℕ, ◌≤◌, List, [], ◌∷◌, map, Option, Some, None, refl, sym, ◌∙◌, subst, arith}
 use Rattle.std.specs.Prelude.{replicate, flat_map, fold, find}
 use Rattle.std.specs.Borrow.{Bor}
 use Rattle.sc_base.specs.Texts.{same}
 use Rattle.sc_base.specs.declared.Class.{Class}
-use Rattle.sc_gate.specs.declared.gate.Wire.{Wire}
 use Rattle.sc_gate.specs.Numbers.{Numbers, number_of, no_wires, with_more}
 use Rattle.sc_syntax.specs.declared.Name.{Name}
 use Rattle.sc_syntax.specs.declared.NameKind.TheVariants as kind
@@ -17,7 +16,7 @@ use Rattle.sc_deck.specs.declared.key.Arg.{Arg}
 use Rattle.sc_deck.specs.declared.key.Arg.TheVariants as arg
 use Rattle.sc_deck.specs.declared.key.Key.{Key}
 use Rattle.sc_deck.specs.Keys.{arg_classes, with_arg, param_classes, params_of}
-use Rattle.sc_deck.specs.Unfolding.{wires_from, numbered}
+use Rattle.sc_deck.specs.Unfolding.{numbered}
 use Rattle.sc_types.specs.Sources.{param_kind}
 use Rattle.sc_types.specs.Statements.{named_wants, part_name}
 use Rattle.sc_types.specs.Accepted.{Taken, IsNew, with_name, AreFine, AreParams, with_params, IsAcceptedPart, IsAccepted}
@@ -32,7 +31,7 @@ use Rattle.sc_elab.specs.declared.todo.Todo.TheVariants.{Rest}
 use Rattle.sc_elab.specs.Frames.{view}
 use Rattle.sc_elab.specs.Starting.{with_param}
 use Rattle.sc_meaning.specs.States.{Wired}
-use Rattle.sc_elab.specs.Typings.{AreOf, IsNumber, ArgFits, ArgsFit, Takes, IsEntering, StandsFor, ScopeAgrees, Agree, IsTyped, IsTypedBody}
+use Rattle.sc_elab.specs.Typings.{AreOf, IsNumber, ArgFits, ArgsFit, Takes, IsEntering, ScopeAgrees, Agree, IsTyped, IsTypedBody}
 use Rattle.sc_elab.proofs.Agreeing.{scope_grow, more_grows, scope_wires, scope_number}
 use Rattle.sc_elab.proofs.EnteringTyped.{IsDefined, defined}
 use Rattle.sc_meaning.proofs.Spanned.{length_made}

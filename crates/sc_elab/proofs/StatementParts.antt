@@ -1,5 +1,5 @@
 -- Statements as parts of a body: what they come to, what is put on the list for them, and how many steps and scopes are left.
-use Rattle.std.proofs.Common.{◌≡◌, ℕ, zero, suc, ◌+◌, ◌-◌, ◌*◌, ◌^◌, ◌<◌, ◌≤◌, Bool, true, false, List, [], ◌∷◌, ◌++◌, length, Option, Some, None, Result, Ok, Err, refl, sym, ap, ◌∙◌, subst, arith, append_assoc, length-append, length-drop}
+use Rattle.std.proofs.Common.{◌≡◌, ℕ, zero, suc, ◌+◌, ◌-◌, ◌*◌, ◌^◌, ◌<◌, ◌≤◌, Bool, true, false, List, [], ◌∷◌, ◌++◌, length, Option, Some, None, Result, Ok, Err, refl, sym, ap, ◌∙◌, arith, append_assoc, length-drop}
 use Rattle.std.specs.Prelude.{OnOk}
 use Rattle.std.specs.Borrow.{Bor}
 use Rattle.std.specs.Option.{option_copied}
@@ -9,7 +9,7 @@ use Rattle.sc_base.specs.declared.Place.{Place}
 use Rattle.sc_syntax.specs.declared.Act.{Act, While}
 use Rattle.sc_syntax.specs.declared.Expr.{Expr}
 use Rattle.sc_syntax.specs.declared.Stmt.{Stmt}
-use Rattle.sc_syntax.specs.Alike.{PureExpr, pure_expr, pure_act, pure_stmt_list}
+use Rattle.sc_syntax.specs.Alike.{pure_expr, pure_act, pure_stmt_list}
 use Rattle.sc_deck.specs.Bodies.{Contents}
 use Rattle.sc_deck.specs.Turns.{last_turns}
 use Rattle.sc_value.specs.Scopes.{Scopes}
@@ -25,7 +25,7 @@ use Rattle.sc_elab.specs.Beginnings.{Begun}
 use Rattle.sc_meaning.specs.Definitions.{Program}
 use Rattle.sc_elab.specs.Folding.{HasRoom}
 use Rattle.sc_elab.specs.Frames.{view, Runs, IsRefused, Advanced, StopsAt}
-use Rattle.sc_meaning.specs.Outcomes.{Outcome, Done, Stopped}
+use Rattle.sc_meaning.specs.Outcomes.{Outcome, Done}
 use Rattle.sc_elab.specs.Pending.{looped, if_on, for_on, block_on, doing, pending, leaves, to_do, after_round}
 use Rattle.sc_meaning.specs.Run.{Callee, act, acts, finish}
 use Rattle.sc_meaning.specs.States.{State, with_scope, without_scope}

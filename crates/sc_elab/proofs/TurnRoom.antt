@@ -1,5 +1,5 @@
 -- The last item of a body never has too many turns: each step that is left has room for 64 more.
-use Rattle.std.proofs.Common.{◌≡◌, ℕ, suc, ◌+◌, ◌*◌, ◌<◌, ◌≤◌, ◌^◌, List, [], ◌∷◌, length, Option, Some, None, Result, Ok, Err, refl, sym, ap, subst, arith}
+use Rattle.std.proofs.Common.{◌≡◌, suc, ◌+◌, ◌*◌, ◌<◌, ◌≤◌, length, Option, Some, None, Result, Ok, Err, refl, ap, arith}
 use Rattle.std.specs.Prelude.{OnOk, IfOk}
 use Rattle.sc_base.specs.declared.Place.{Place}
 use Rattle.sc_gate.specs.declared.gate.Wire.{Wire}
@@ -7,7 +7,6 @@ use Rattle.sc_gate.specs.declared.gate.Kind.{Kind}
 use Rattle.sc_gate.specs.declared.gate.Kind.TheVariants as kind
 use Rattle.sc_gate.specs.declared.gate.Gate.{Gate}
 use Rattle.sc_tables.specs.Replacing.{replaced_on}
-use Rattle.sc_deck.specs.declared.item.Item.{Item}
 use Rattle.sc_deck.specs.Bodies.{Contents}
 use Rattle.sc_deck.specs.Turns.{last_turns}
 use Rattle.sc_meaning.specs.declared.choice.Choice.{Choice}

@@ -1,5 +1,5 @@
 -- Items and decks that are folded as they are made, and what they stand for.
-use Rattle.std.specs.Prelude.{◌≡◌, ℕ, ◌+◌, ◌*◌, ◌≤◌, Option, Some, None, List, map, flat_map}
+use Rattle.std.specs.Prelude.{◌≡◌, ◌+◌, ◌*◌, ◌≤◌, Option, Some, None, List, map, flat_map}
 use Rattle.sc_deck.specs.declared.Item.{Item}
 use Rattle.sc_deck.specs.Modules.{Module}
 use Rattle.sc_deck.specs.Turns.{written_out, last_turns, folded, folded_modules}

@@ -1,5 +1,5 @@
 -- What the elaborator's functions promise of their frames.
-use Rattle.std.specs.Prelude.{◌≡◌, ◌≢◌, ℕ, ◌+◌, ◌*◌, ◌<◌, ◌≤◌, nat_lt, false, List, [], ◌∷◌, length, map, reverse, Option, Result, Ok, Err}
+use Rattle.std.specs.Prelude.{◌≡◌, ℕ, nat_lt, false, List, ◌∷◌, length, map, reverse, Option, Ok, Err}
 use Rattle.sc_gate.specs.declared.gate.Wire.{Wire}
 use Rattle.sc_gate.specs.Numbers.{both}
 use Rattle.sc_deck.specs.declared.Key.{Key}

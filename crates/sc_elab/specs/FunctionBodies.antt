@@ -1,5 +1,5 @@
 -- The bodies of classical functions, as the code makes them.
-use Rattle.std.specs.Prelude.{◌≡◌, ◌≤◌, ℕ, nat_lt, false, List, [], ◌∷◌, map, flat_map, length, Ok, Err}
+use Rattle.std.specs.Prelude.{◌≡◌, ◌≤◌, nat_lt, false, List, [], ◌∷◌, map, length, Ok, Err}
 use Rattle.sc_base.specs.declared.Class.TheVariants.{Q}
 use Rattle.sc_gate.specs.declared.gate.Wire.{Wire}
 use Rattle.sc_gate.specs.Numbers.{Numbers, no_wires, both}

@@ -1,13 +1,10 @@
 -- What is still to do in a body, and what one part of it promises.
-use Rattle.std.specs.Prelude.{◌≡◌, ℕ, suc, ◌+◌, ◌*◌, ◌<◌, ◌≤◌, nat_lt, false, Option, Some, None, option_map, List, [], ◌∷◌, ◌++◌, length, Result, Ok, Err}
+use Rattle.std.specs.Prelude.{ℕ, suc, Option, Some, None, option_map, List, [], ◌∷◌, ◌++◌}
 use Rattle.std.specs.Borrow.{Bor}
 use Rattle.std.specs.Option.{option_copied}
-use Rattle.sc_base.specs.declared.Place.{Place}
-use Rattle.sc_gate.specs.declared.gate.Wire.{Wire}
 use Rattle.sc_syntax.specs.declared.Expr.{Expr}
 use Rattle.sc_syntax.specs.declared.Stmt.{Stmt}
-use Rattle.sc_syntax.specs.Alike.{PureExpr, PureAct, PureHeld, pure_expr, pure_act, pure_stmt_list}
-use Rattle.sc_deck.specs.declared.Key.{Key}
+use Rattle.sc_syntax.specs.Alike.{PureAct, PureHeld, pure_expr, pure_act, pure_stmt_list}
 use Rattle.sc_elab.specs.declared.todo.Todo.{Todo}
 use Rattle.sc_elab.specs.declared.todo.Todo.TheVariants.{Do, Loop, Rest, Leave}
 use Rattle.sc_elab.specs.declared.todo.Rounds.{Rounds}

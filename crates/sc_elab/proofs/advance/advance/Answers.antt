@@ -1,10 +1,9 @@
-use Rattle.std.proofs.Common.{[], ◌∷◌, length, refl, sym, ap, subst, arith}
+use Rattle.std.proofs.Common.{length, refl, sym, ap, subst, arith}
 use Rattle.std.proofs.lemmas.Result.{on_ok_weaker}
 use Rattle.sc_deck.specs.Bodies.{Contents}
 use Rattle.sc_deck.specs.Decks.{CallsFit}
 use Rattle.sc_meaning.specs.Programs.{program_of}
-use Rattle.sc_elab.specs.declared.todo.Todo.{Todo}
-use Rattle.sc_elab.specs.declared.todo.Todo.TheVariants.{Do, Loop, Rest, Leave}
+use Rattle.sc_elab.specs.declared.todo.Todo.TheVariants.{Do, Loop, Rest}
 use Rattle.sc_elab.specs.Folding.{IsFolded}
 use Rattle.sc_elab.proofs.BodyTyping.{leave_scope_typed}
 use Rattle.sc_elab.proofs.StatementParts.{leave_advanced, nested_on, scope_last, nested_off}

@@ -1,8 +1,8 @@
-use Rattle.std.proofs.Common.{◌≡◌, None, refl, sym, ap, ◌∙◌, subst, length, arith}
+use Rattle.std.proofs.Common.{None, refl, ap, length, arith}
 use Rattle.std.specs.Prelude.{map, option_map}
 use Rattle.std.specs.Option.{option_copied}
 use Rattle.std.proofs.lemmas.Result.{err_from_is_err_and, on_ok_weaker, IfOk-weaker, IfErr-weaker}
-use Rattle.sc_syntax.specs.declared.Act.{Act, Set, Measure, Call, While, Empty}
+use Rattle.sc_syntax.specs.declared.Act.{Set, Measure, Call, While, Empty}
 use Rattle.sc_syntax.specs.Alike.{PureAct, pure_expr, pure_decl, pure_init, pure_act}
 use Rattle.sc_elab.specs.Frames.{view}
 use Rattle.sc_elab.specs.Gating.{measure_on, call_on}

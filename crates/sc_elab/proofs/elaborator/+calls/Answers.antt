@@ -1,45 +1,40 @@
-use Rattle.std.proofs.Common.{◌≡◌, ℕ, ◌<◌, ◌≤◌, ◌-◌, List, [], ◌∷◌, ◌++◌, length, Option, Some, None, refl, sym, ap, ◌∙◌, subst, arith, length-append}
+use Rattle.std.proofs.Common.{◌≡◌, ℕ, ◌<◌, ◌≤◌, ◌-◌, List, [], ◌∷◌, ◌++◌, length, Option, Some, refl, sym, ap, ◌∙◌, subst, arith, length-append}
 use Rattle.std.specs.Prelude.{map, slice_get, slice_index, IfSome, IfNone}
 use Rattle.std.specs.FinMap.{empty}
 use Rattle.std.specs.Option.{option_map}
 use Rattle.std.proofs.lemmas.Result.{err_from_is_err_and, IfOk-weaker, IfErr-weaker}
 use Rattle.sc_gate.specs.declared.gate.Wire.{Wire}
 use Rattle.sc_gate.specs.Gates.{class_of, AreDistinct}
-use Rattle.sc_gate.specs.Numbers.{no_wires, AreThere}
+use Rattle.sc_gate.specs.Numbers.{AreThere}
 use Rattle.sc_syntax.specs.declared.Stmt.{Stmt}
 use Rattle.sc_syntax.specs.Alike.{pure_param, pure_stmt_list}
 use Rattle.sc_value.specs.Scopes.{Scopes}
-use Rattle.sc_deck.specs.declared.key.Key.{Key}
-use Rattle.sc_deck.specs.declared.item.Item.{Item}
 use Rattle.sc_deck.specs.declared.item.Item.TheVariants as item
 use Rattle.sc_deck.specs.Bodies.{Contents, wires_of}
 use Rattle.sc_deck.specs.Decks.{CallsFit, IsNewKey}
-use Rattle.sc_deck.specs.Keys.{param_classes, params_of}
 use Rattle.sc_deck.specs.Modules.{Module as Instance, key_of, heights_of}
 use Rattle.sc_deck.specs.Turns.{with_folded}
-use Rattle.sc_deck.specs.Unfolding.{numbered}
 use Rattle.sc_deck.proofs.CallLaws.{CallsFit-more}
 use Rattle.sc_elab.specs.declared.callee.Callee.{Callee}
-use Rattle.sc_elab.specs.declared.callee.Callee.TheVariants.{Module, Words}
 use Rattle.sc_elab.specs.declared.frame.Frame.{Frame}
 use Rattle.sc_elab.specs.declared.todo.Todo.{Todo}
 use Rattle.sc_elab.specs.declared.todo.Request.{Request}
 use Rattle.sc_elab.specs.Callees.{definition_by}
 use Rattle.sc_elab.specs.Folding.{IsFolded, HasRoomFor}
 use Rattle.sc_elab.specs.Frames.{view, Advanced}
-use Rattle.sc_elab.specs.Machines.{IsRefusedCall, RunsOn, IsRefusedOn, RunsBody}
+use Rattle.sc_elab.specs.Machines.{IsRefusedCall, RunsOn, IsRefusedOn}
 use Rattle.sc_elab.specs.Pending.{doing, leaves}
 use Rattle.sc_elab.specs.Typings.{Takes, IsTypedBody, IsTypedCall}
 use Rattle.sc_meaning.specs.declared.fault.ElabFault.{ElabFault}
-use Rattle.sc_meaning.specs.Definitions.{Definition, definition}
+use Rattle.sc_meaning.specs.Definitions.{Definition}
 use Rattle.sc_meaning.specs.Instances.{number_in_deck}
 use Rattle.sc_meaning.specs.Kept.{In}
-use Rattle.sc_meaning.specs.Local.{local, local_body}
+use Rattle.sc_meaning.specs.Local.{local}
 use Rattle.sc_meaning.specs.Programs.{program_of, function_of}
-use Rattle.sc_meaning.specs.Run.{acts, start_state}
+use Rattle.sc_meaning.specs.Run.{acts}
 use Rattle.sc_meaning.specs.States.{State}
 use Rattle.sc_elab.proofs.Adding.{key_there, key_pushed, number_new}
-use Rattle.sc_elab.proofs.Calling.{call_deep, call_many, call_refused_inside, call_made, call_kept, call_too_deep, keeps_entered, new_still, room_for, keeps_pushed, grows_none, grows_then, body_module, body_stopped, body_function, body_wide, deeper, called_at, refused_call_at}
+use Rattle.sc_elab.proofs.Calling.{call_deep, call_many, call_refused_inside, call_made, call_kept, call_too_deep, keeps_entered, new_still, room_for, keeps_pushed, grows_none, grows_then, body_module, body_stopped, body_function, body_wide, called_at, refused_call_at}
 use Rattle.sc_elab.proofs.Executing.{one_part_left, comes_begin, comes_on, comes_called, comes_stop, comes_refused, comes_end, view_called, folds_called, calls_called, room_called, call_fits, typed_same, call_runs, call_refused}
 use Rattle.sc_elab.proofs.Keeping.{length_number_params}
 use Rattle.sc_elab.proofs.elaborator.+calls.Goals as goal

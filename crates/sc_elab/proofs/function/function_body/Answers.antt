@@ -1,11 +1,10 @@
-use Rattle.std.proofs.Common.{◌≡◌, ◌<◌, ◌≤◌, List, length, sym, ap, ◌∙◌, subst, arith}
+use Rattle.std.proofs.Common.{◌<◌, ◌≤◌, length, sym, ap, ◌∙◌, subst, arith}
 use Rattle.std.specs.Prelude.{flat_map}
-use Rattle.sc_deck.specs.declared.item.Item.{Item}
 use Rattle.sc_deck.specs.Bodies.{Contents, IsBody}
 use Rattle.sc_deck.specs.Turns.{folded}
 use Rattle.sc_word.specs.Scratch.{fn_wires}
 use Rattle.sc_elab.specs.FunctionBodies.{chosen_items}
-use Rattle.sc_elab.proofs.FunctionLaws.{items_on, keyed_params, chosen_all, items_folded, items_call, body_made, none_made}
+use Rattle.sc_elab.proofs.FunctionLaws.{keyed_params, chosen_all, items_folded, items_call, body_made, none_made}
 use Rattle.sc_elab.proofs.GateCounts.{few_items}
 use Rattle.sc_elab.proofs.function.function_body.Goals as goal
 

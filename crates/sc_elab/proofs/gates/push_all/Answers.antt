@@ -1,4 +1,4 @@
-use Rattle.std.proofs.Common.{None, take, arith}
+use Rattle.std.proofs.Common.{None, take}
 use Rattle.sc_base.specs.declared.Class.TheVariants.{Q}
 use Rattle.sc_gate.specs.declared.gate.Gate.{Gate}
 use Rattle.sc_gate.specs.declared.gate.Kind.TheVariants.{X}

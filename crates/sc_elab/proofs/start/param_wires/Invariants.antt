@@ -1,4 +1,4 @@
-use Rattle.std.proofs.Common.{◌≡◌, List, [], ◌∷◌, drop}
+use Rattle.std.proofs.Common.{◌≡◌, [], ◌∷◌, drop}
 use Rattle.std.specs.Prelude.{map, flat_map}
 use Rattle.sc_gate.specs.Numbers.{no_wires}
 use Rattle.sc_syntax.specs.Alike.{pure_param}
