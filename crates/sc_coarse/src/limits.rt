@@ -1,5 +1,5 @@
 //! Which decks have no coarse schedule.
-ghost use Rattle.std.specs.Prelude.{◌≡◌, ◌≤◌, ◌<◌, ℕ, length, IfSome, IfNone, ◌×◌};
+ghost use Rattle.std.specs.Prelude.{◌≡◌, ◌≤◌, ◌<◌, ℕ, length, IfSome, IfNone};
 ghost use Rattle.sc_coarse.specs.Refusals.{body_too_large, deck_too_large, item_width, width_in, IsFirstWide, NoneIsWide};
 
 use sc_base::MOST_GATES;
