@@ -30,6 +30,13 @@ other_number t x n f = rw (ne_eqb t.number n f) (by (t.item == x))
 other_item : (t : Turn) (x n : ℕ) → (t.item ≡ x → ⊥) → same_turn t (turn x n) ≡ false
 other_item t x n f = rw (ne_eqb t.item x f) refl
 
+-- 1 where it is the turn, and 0 where it is not
+is_one : (b : Bool) → b ≡ true → cond {A = ℕ} b 1 0 ≡ 1
+is_one b h = rw h refl
+
+is_none : (b : Bool) → b ≡ false → cond {A = ℕ} b 1 0 ≡ 0
+is_none b h = rw h refl
+
 -- blocks of which each is one turn of the item x
 pub record IsOneTurn (x : ℕ) (f : ℕ → TurnBlock) : Type 0 where
   pub times : (t : Turn) (n : ℕ) → times_in_block t (f n) ≡ cond (same_turn t (turn x n)) 1 0
@@ -37,7 +44,7 @@ pub record IsOneTurn (x : ℕ) (f : ℕ → TurnBlock) : Type 0 where
 pub one_step : (x : ℕ) → IsOneTurn x (turn_step x)
 one_step x = record { times = λ t n. by (same_turn t (turn x n)) }
   where
-    by : (b : Bool) → cond b 1 0 + 0 + 0 ≡ cond b 1 0
+    by : (b : Bool) → 0 + (0 + cond b 1 0) ≡ cond b 1 0
     by true = refl
     by false = refl
 
@@ -54,16 +61,16 @@ module _ (x : ℕ) (f : ℕ → TurnBlock) (one : IsOneTurn x f) where
   pub times_not : (n : ℕ) (t : Turn) → (t.item ≡ x → ⊥) ⊎ (n ≤ t.number) → times_in_blocks (map f (positions n)) t ≡ 0
   times_not zero t h = refl
   times_not (suc n) t (inl h) =
-      let e = more n t in let r = times_not n t (inl h) in let z : cond (same_turn t (turn x n)) 1 0 ≡ 0 = rw (other_item t x n h) refl in omega (arith, e, r, z)
+      let e = more n t in let r = times_not n t (inl h) in let z = is_none (same_turn t (turn x n)) (other_item t x n h) in omega (arith, e, r, z)
   times_not (suc n) t (inr h) =
       let e = more n t in let r = times_not n t (inr (omega arith)) in
-      let z : cond (same_turn t (turn x n)) 1 0 ≡ 0 = rw (other_number t x n (λ k. omega (arith, k, h))) refl in omega (arith, e, r, z)
+      let z = is_none (same_turn t (turn x n)) (other_number t x n (λ k. omega (arith, k, h))) in omega (arith, e, r, z)
 
   pub times_one : (n : ℕ) (t : Turn) → t.item ≡ x → t.number < n → times_in_blocks (map f (positions n)) t ≡ 1
   times_one zero t is h = absurd (omega arith)
   times_one (suc n) t is h = elim (cases_lt t.number n) [
-    | inl l ↦ (let e = more n t in let r = times_one n t is l in let z : cond (same_turn t (turn x n)) 1 0 ≡ 0 = rw (other_number t x n (λ k. omega (arith, k, l))) refl in omega (arith, e, r, z))
-    | inr g ↦ (let e = more n t in let r = times_not n t (inr g) in let z : cond (same_turn t (turn x n)) 1 0 ≡ 1 = rw (same_here t x n is (omega arith)) refl in omega (arith, e, r, z))
+    | inl l ↦ (let e = more n t in let r = times_one n t is l in let z = is_none (same_turn t (turn x n)) (other_number t x n (λ k. omega (arith, k, l))) in omega (arith, e, r, z))
+    | inr g ↦ (let e = more n t in let r = times_not n t (inr g) in let z = is_one (same_turn t (turn x n)) (same_here t x n is (omega arith)) in omega (arith, e, r, z))
   ]
 
   -- turn m stands in block m
@@ -130,6 +137,9 @@ single_turns whole front i back is lone =
     number : (f : Item → ℕ) → slice_index (map f whole) (length front) ≡ f i
     number f = ap (λ (xs : List Item). slice_index (map f xs) (length front)) is ∙ number_behind f front i back
 
+    one_region : (items : List Item) (t : Turn) → IsGateTurn items t → SuitsItems items (OneStep ((t ∷ []) ∷ []))
+    one_region items t h = All-cons (λ region. All (IsGateTurn items) region) (t ∷ []) [] (All-cons (IsGateTurn items) t [] h (All-nil (IsGateTurn items))) (All-nil (λ region. All (IsGateTurn items) region))
+
     by : (j : Item) → IsSingle j → slice_get whole (length front) ≡ Some j → ((f : Item → ℕ) → slice_index (map f whole) (length front) ≡ f j) → Covers whole (length front) (length front + 1) (single_blocks (length front) (Some j))
     by (item.Fresh class n) lone at num = absurd lone
     by (item.Gate gate) lone at num = absurd lone
@@ -142,6 +152,3 @@ single_turns whole front i back is lone =
     by (item.Calls callee wires turns) lone at num =
         single_covers (length front) (turn_call (length front)) (one_call (length front)) whole turns (num item_turns ∙ zero-add turns)
         (λ m l. (let e = num call_turns in let r : m < slice_index (map call_turns whole) (length front) = omega (arith, l, e) in r))
-
-    one_region : (items : List Item) (t : Turn) → IsGateTurn items t → SuitsItems items (OneStep ((t ∷ []) ∷ []))
-    one_region items t h = All-cons (λ region. All (IsGateTurn items) region) (t ∷ []) [] (All-cons (IsGateTurn items) t [] h (All-nil (IsGateTurn items))) (All-nil (λ region. All (IsGateTurn items) region))

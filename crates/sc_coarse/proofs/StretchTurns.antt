@@ -182,7 +182,7 @@ module _ (front mid back : List Item) (quiet : IsQuiet mid) where
       ]
   ]
 
-  is_index : (i : ℕ) → i < length xs → (x : ℕ) → x < length xs → cond (same_turn (stretch_turn xs i) (stretch_turn xs x)) 1 0 ≡ cond (x == i) 1 0
+  is_index : (i : ℕ) → i < length xs → (x : ℕ) → x < length xs → cond {A = ℕ} (same_turn (stretch_turn xs i) (stretch_turn xs x)) 1 0 ≡ cond {A = ℕ} (x == i) 1 0
   is_index i l x m = elim (cases_Bool (x == i)) [
     | inl t ↦ (let e : x ≡ i = eqb-true x i t in rw (t, eq-eqb (slice_index xs i) (slice_index xs x) (ap (slice_index xs) (sym e))) refl)
     | inr f ↦ (rw (f, ne_eqb (slice_index xs i) (slice_index xs x) (λ e. eqb-false x i f (sym (one_index i x l m e)))) refl)

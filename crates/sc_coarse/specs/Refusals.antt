@@ -1,5 +1,5 @@
 -- Which decks have no coarse schedule.
-use Rattle.std.specs.Prelude.{ℕ, ◌<◌, ◌≤◌, ◌||◌, Bool, false, nat_lt, List, map, length, slice_get, slice_index}
+use Rattle.std.specs.Prelude.{ℕ, ◌+◌, ◌<◌, ◌≤◌, ◌||◌, Bool, false, nat_lt, List, map, length, slice_get, slice_index}
 use Rattle.std.specs.List.{list_any}
 use Rattle.std.specs.Option.{option_map_or}
 use Rattle.sc_deck.specs.declared.item.Item.{Item}
@@ -12,6 +12,17 @@ use Rattle.sc_coarse.specs.CoarseRule.{Part, Stretch, Single, parts_of}
 abbrev pub is_long : Part → Bool
 is_long (Stretch items gates) = nat_lt 4194304 (length gates)
 is_long (Single x) = false
+
+-- the number of gates of a stretch that is begun with, with one more item
+abbrev pub gates_with : ℕ → Item → ℕ
+gates_with n (item.Fresh class k) = n
+gates_with n (item.Gate gate) = n + 1
+gates_with n (item.Call callee wires) = 0
+gates_with n (item.Gates gate turns) = 0
+gates_with n (item.Calls callee wires turns) = 0
+
+abbrev pub items_of : Module → List Item
+items_of m = m.items
 
 -- more items than there are positions, or a stretch that is too long
 abbrev pub body_too_large : List Item → Bool

@@ -1,6 +1,7 @@
 //! Which decks have no coarse schedule.
-ghost use Rattle.std.specs.Prelude.{◌≡◌, ◌≤◌, ◌<◌, ℕ, length, IfSome, IfNone};
-ghost use Rattle.sc_coarse.specs.Refusals.{body_too_large, deck_too_large, item_width, width_in, IsFirstWide, NoneIsWide};
+ghost use Rattle.std.specs.Prelude.{◌≡◌, ◌≤◌, ◌<◌, ℕ, false, length, slice_get, Some, IfSome, IfNone};
+ghost use Rattle.std.specs.Option.{option_map};
+ghost use Rattle.sc_coarse.specs.Refusals.{items_of, gates_with, body_too_large, deck_too_large, item_width, width_in, IsFirstWide, NoneIsWide};
 
 use sc_base::MOST_GATES;
 use sc_deck::{Deck, Item};
@@ -8,6 +9,26 @@ use sc_gate::arity;
 
 /// How many items of a body have a position.
 const MOST_POSITIONS: usize = 4_294_967_295;
+
+/// The items of the instance of this number, which is there.
+pub(crate) fn items_at(deck: &Deck, i: u32) -> &[Item]
+    requires { i < length deck.now }
+    ensures { option_map items_of (slice_get deck.now i) ≡ Some result.now }
+{
+    deck.body_at(i).unwrap().items()
+}
+
+/// The number of gates of the stretch that is begun with, with one more item: a call and a repeated gate begin anew.
+fn gates_with(gates: usize, item: &Item) -> usize
+    requires { gates ≤ 4194304 }
+    ensures { result ≡ gates_with gates item.now }
+{
+    match item {
+        Item::Fresh(..) => gates,
+        Item::Gate(_) => gates + 1,
+        Item::Call(..) | Item::Gates(..) | Item::Calls(..) => 0,
+    }
+}
 
 /// Whether there are more items than positions, or a stretch of more gates than are scheduled.
 fn body_is_too_large(items: &[Item]) -> bool
@@ -18,11 +39,7 @@ fn body_is_too_large(items: &[Item]) -> bool
     }
     let mut gates = 0;
     for item in items {
-        gates = match item {
-            Item::Fresh(..) => gates,
-            Item::Gate(_) => gates + 1,
-            Item::Call(..) | Item::Gates(..) | Item::Calls(..) => 0,
-        };
+        gates = gates_with(gates, item);
         if gates > MOST_GATES {
             return true;
         }
@@ -35,10 +52,8 @@ pub(crate) fn is_too_large(deck: &Deck) -> bool
     ensures { result ≡ deck_too_large deck.now }
 {
     for i in 0..deck.len() {
-        if let Some(body) = deck.body_at(i) {
-            if body_is_too_large(body.items()) {
-                return true;
-            }
+        if body_is_too_large(items_at(deck, i)) {
+            return true;
         }
     }
     false
@@ -76,10 +91,8 @@ pub(crate) fn first_wide(deck: &Deck, d: u32) -> Option<(u32, u32)>
     ensures none { IfNone result (NoneIsWide d deck.now) }
 {
     for i in 0..deck.len() {
-        if let Some(body) = deck.body_at(i) {
-            if let Some(x) = first_wide_item(body.items(), d) {
-                return Some((i, x));
-            }
+        if let Some(x) = first_wide_item(items_at(deck, i), d) {
+            return Some((i, x));
         }
     }
     None

@@ -16,7 +16,7 @@ ghost use Rattle.sc_coarse.specs.Refusals.{deck_too_large, IsFirstWide};
 use crate::building::blocks_of;
 use crate::coarse::Instance;
 use crate::lengths::length_of;
-use crate::limits::{first_wide, is_too_large};
+use crate::limits::{first_wide, is_too_large, items_at};
 use crate::Coarse;
 use sc_base::{List, Memory};
 use sc_count::Tally;
@@ -103,12 +103,11 @@ fn schedule_all<P: Priority>(
 {
     let mut instances = List::new(alloc);
     for i in 0..deck.len() {
-        if let Some(body) = deck.body_at(i) {
-            let blocks = blocks_of(alloc, body.items(), k, d, order)?;
-            has_range(tally, i);
-            let length = length_of(blocks.as_slice(), body.items(), instances.as_slice());
-            instances.push(Instance { length, blocks })?;
-        }
+        let items = items_at(deck, i);
+        let blocks = blocks_of(alloc, items, k, d, order)?;
+        has_range(tally, i);
+        let length = length_of(blocks.as_slice(), items, instances.as_slice());
+        instances.push(Instance { length, blocks })?;
     }
     Ok(instances)
 }

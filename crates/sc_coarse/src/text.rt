@@ -1,5 +1,5 @@
 //! Coarse texts.
-ghost use Rattle.std.specs.Prelude.{◌≡◌, ◌<◌, ◌++◌, false, length, codes, decimal, flat_map, map, Some, slice_get, OnOk};
+ghost use Rattle.std.specs.Prelude.{◌≡◌, ◌<◌, ◌∷◌, ◌++◌, false, length, codes, decimal, flat_map, map, Some, slice_get, OnOk};
 ghost use Rattle.sc_base.specs.Causes.{HasCause};
 ghost use Rattle.sc_base.specs.Output.{Wrote, WrotePrefix};
 ghost use Rattle.sc_gate.specs.Lines.{number_line};
@@ -28,6 +28,16 @@ fn line_of(word: &[u8], number: u128) -> LineBuffer
     line
 }
 
+/// A position after a space.
+fn position_after(x: u32) -> LineBuffer
+    ensures { result ≡ 32 ∷ decimal x }
+{
+    let mut line = LineBuffer::new();
+    line.push(b" ");
+    line.push_number(x);
+    line
+}
+
 /// Appends positions, each after a space.
 fn push_positions<O: Sink>(
     region: &[u32],
@@ -41,10 +51,7 @@ fn push_positions<O: Sink>(
     ensures cause { HasCause (O.faults out.old) (O.faults out.new) result }
 {
     for x in region {
-        let mut line = LineBuffer::new();
-        line.push(b" ");
-        line.push_number(*x);
-        held.push(line.as_bytes(), out)?;
+        held.push(position_after(*x).as_bytes(), out)?;
     }
     Ok(())
 }

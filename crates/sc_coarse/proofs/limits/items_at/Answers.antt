@@ -1,0 +1,10 @@
+use Rattle.std.proofs.Common.{◌≡◌, sym, ap, ◌∙◌, slice_get}
+use Rattle.sc_deck.specs.Modules.{body_of}
+use Rattle.sc_coarse.proofs.CoarseTexts.{mapped_found}
+use Rattle.sc_coarse.proofs.limits.items_at.Goals as goal
+
+pub unwrap-requires : goal.unwrap-requires
+unwrap-requires c = mapped_found _ body_of c.args.deck.now c.args.i c.requires c.body_at.ensures
+
+pub returns : goal.returns
+returns c = ?
