@@ -1,4 +1,4 @@
-use Rattle.sc_coarse.proofs.Limits.{Walks}
+use Rattle.sc_coarse.proofs.WideAndLong.{Walks}
 use Rattle.sc_coarse.proofs.limits.body_is_too_large.Given as goal
 
 abbrev pub invariant-loop-item : goal.invariant-loop-item

@@ -2,7 +2,7 @@ use Rattle.std.proofs.Common.{◌≡◌, ◌<◌, ◌≤◌, ℕ, List, length, 
 use Rattle.std.proofs.lemmas.Bool.{cases_lt}
 use Rattle.sc_deck.specs.declared.item.Item.{Item}
 use Rattle.sc_coarse.specs.Refusals.{item_width, width_in}
-use Rattle.sc_coarse.proofs.Limits.{width_here, width_past}
+use Rattle.sc_coarse.proofs.WideAndLong.{width_here, width_past}
 use Rattle.sc_coarse.proofs.limits.first_wide_item.Goals as goal
 
 narrow_here : (items : List Item) (x d n : ℕ) (i : Item) → x < length items → i ≡ get_or items x i → n ≡ item_width i → n ≤ d → width_in items x ≤ d

@@ -1,7 +1,7 @@
 use Rattle.std.proofs.Common.{◌≤◌, length, sym, ap, ◌∙◌, arith}
 use Rattle.std.proofs.lemmas.List.{take_all}
 use Rattle.sc_coarse.specs.Refusals.{deck_too_large}
-use Rattle.sc_coarse.proofs.Limits.{large_at, none_large_more}
+use Rattle.sc_coarse.proofs.WideAndLong.{large_at, none_large_more}
 use Rattle.sc_coarse.proofs.limits.is_too_large.Goals as goal
 
 pub returns-then-body_is_too_large : goal.returns-then-body_is_too_large

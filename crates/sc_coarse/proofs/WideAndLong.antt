@@ -67,7 +67,7 @@ next_is : (items : List Item) (x n : ℕ) (i : Item) → x < length items → i 
     list_any is_long (parts_of items) ≡ long_after (gates_with n i) (parts_from (x + 1) (drop (x + 1) items))
 next_is items x n i below is w =
     w.still ∙ (ap (λ (xs : List Item). long_after n (parts_from x xs)) (drop-cons items x i below ∙ (λ j. sym is j ∷ drop (suc x) items))
-    ∙ (long_item n x i (drop (suc x) items) w.few ∙ ap (λ (m : ℕ). long_after (gates_with n i) (parts_from (x + 1) (drop m items))) (sym (add-one {n = x}))))
+    ∙ (long_item n x i (drop (suc x) items) w.few ∙ ap (λ (m : ℕ). long_after (gates_with n i) (parts_from (x + 1) (drop m items))) (let e : suc x ≡ x + 1 = omega arith in e)))
 
 pub walk_goes_on : (items : List Item) (x n m : ℕ) (i : Item) → x < length items → i ≡ get_or items x i → m ≡ gates_with n i → m ≤ 4194304 → Walks items x n → Walks items (x + 1) m
 walk_goes_on items x n m i below is next few w = record {
