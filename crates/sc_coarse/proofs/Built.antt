@@ -12,9 +12,16 @@ use Rattle.sc_sched.specs.PrioritySchedules.{IsPrioritySchedule}
 use Rattle.sc_coarse.specs.declared.block.Block.{Block}
 use Rattle.sc_coarse.specs.declared.block.Block.TheVariants as block
 use Rattle.sc_coarse.specs.declared.building.Building.{Building}
-use Rattle.sc_coarse.specs.Building.{stretch_part, with_open, IsBuilt}
+use Rattle.sc_coarse.specs.Building.{IsSingle, stretch_part, with_open, IsBuilt}
 use Rattle.sc_coarse.specs.CoarseRule.{Part, Stretch, Single, parts_from, parts_of, ones, item_step, AreBlocks}
-use Rattle.sc_coarse.proofs.Parts.{with_open-plain, with_open-none, blocks_then, blocks_one, IsSingle}
+use Rattle.sc_coarse.proofs.Parts.{with_open-plain, with_open-none, blocks_then, blocks_one}
+
+single_part : (x : ℕ) (i : Item) (rest : List Item) → IsSingle i → parts_from x (i ∷ rest) ≡ Single x ∷ parts_from (x + 1) rest
+single_part x (item.Fresh class n) rest lone = absurd lone
+single_part x (item.Gate gate) rest lone = absurd lone
+single_part x (item.Call callee wires) rest lone = refl
+single_part x (item.Gates gate turns) rest lone = refl
+single_part x (item.Calls callee wires turns) rest lone = refl
 
 module _ (comes : Rank → Rank → Bool) (k d : ℕ) where
   -- a stretch with its steps
@@ -49,7 +56,7 @@ module _ (comes : Rank → Rank → Bool) (k d : ℕ) where
     same = (let e = ap length items in let f = ap length gates in let m = length-append b.items.items (x ∷ []) in let n = length-append b.gates.items (g ∷ []) in let s = h.same in omega arith);
   }
 
-  pub built_single : (parts : List Part) (x : ℕ) (i : Item) (rest : List Item) (b c e : Building) → ((items : List Item) → parts_from x (i ∷ items) ≡ Single x ∷ parts_from (x + 1) items) →
+  pub built_single : (parts : List Part) (x : ℕ) (i : Item) (rest : List Item) (b c e : Building) → IsSingle i →
       ((done : List Part) → AreBlocks comes k d done b.blocks → AreBlocks comes k d (done ++ stretch_part b.items.items b.gates.items) c.blocks) →
       e.blocks ≡ c.blocks ++ block.Alone x ∷ [] → e.items.items ≡ [] → e.gates.items ≡ [] →
       IsBuilt comes k d parts x (i ∷ rest) b → IsBuilt comes k d parts (x + 1) rest e
@@ -60,7 +67,7 @@ module _ (comes : Rank → Rank → Bool) (k d : ℕ) where
         done = (h.done ++ front) ++ Single x ∷ [];
         blocks = subst (AreBlocks comes k d ((h.done ++ front) ++ Single x ∷ [])) (sym blocks)
             (blocks_then comes k d (h.done ++ front) (Single x ∷ []) c.blocks (block.Alone x ∷ []) (closes h.done h.blocks) (blocks_one comes k d (Single x) (block.Alone x ∷ []) refl));
-        whole = h.whole ∙ (ap (λ (ps : List Part). h.done ++ with_open b.items.items b.gates.items ps) (lone rest)
+        whole = h.whole ∙ (ap (λ (ps : List Part). h.done ++ with_open b.items.items b.gates.items ps) (single_part x i rest lone)
             ∙ (sym (append_assoc h.done front (Single x ∷ more)) ∙ (sym (append_assoc (h.done ++ front) (Single x ∷ []) more)
             ∙ (λ j. ((h.done ++ front) ++ Single x ∷ []) ++ (sym (with_open-none more) ∙ (λ l. with_open (sym items l) (sym gates l) more)) j))));
         same = (let p = ap length items in let q = ap length gates in p ∙ sym q);

@@ -33,11 +33,12 @@ use Rattle.sc_sched.proofs.InSequence.{legal_sequence, legal_none, legal_alone}
 use Rattle.sc_sched.proofs.Renamed.{legal_renamed}
 use Rattle.sc_coarse.specs.declared.block.Block.{Block}
 use Rattle.sc_coarse.specs.declared.block.Block.TheVariants as block
+use Rattle.sc_coarse.specs.Building.{IsSingle}
 use Rattle.sc_coarse.specs.CoarseRule.{turn_step, turn_call, single_blocks, turn_blocks, all_turn_blocks, AreStretchBlocks, IsCoarseRule}
 use Rattle.sc_coarse.specs.CoarseSchedules.{turn, TurnBlock}
 use Rattle.sc_coarse.specs.Expansions.{turn_gates, item_gates, flat_place, steps_called, callee_at, block_steps, all_steps}
 use Rattle.sc_coarse.specs.Refusals.{item_width, width_in}
-use Rattle.sc_coarse.proofs.Parts.{IsQuiet, IsSingle, plain_items, plain_gates, plain_same, by_parts}
+use Rattle.sc_coarse.proofs.Parts.{IsQuiet, plain_items, plain_gates, plain_same, by_parts}
 use Rattle.sc_coarse.proofs.Placed.{fine_item, fine_items, placed_apart, passed_distinct, gate_later, there_after}
 use Rattle.sc_coarse.proofs.SingleTurns.{item_behind, number_behind}
 use Rattle.sc_coarse.proofs.StretchTurns.{stretch_turn, turns_step, stretch_blocks_are}
@@ -111,11 +112,11 @@ map_twice f h [] = refl
 map_twice f h (x ∷ xs) = ap (λ (ys : List _). f (h x) ∷ ys) (map_twice f h xs)
 
 -- front parts of lists
-take_front : (front rest : List Item) → take (length front) (front ++ rest) ≡ front
+pub take_front : (front rest : List Item) → take (length front) (front ++ rest) ≡ front
 take_front [] rest = refl
 take_front (i ∷ front) rest = ap (λ (xs : List Item). i ∷ xs) (take_front front rest)
 
-take_middle : (front mid back : List Item) (y : ℕ) → y ≤ length mid → take (length front + y) (front ++ (mid ++ back)) ≡ front ++ take y mid
+pub take_middle : (front mid back : List Item) (y : ℕ) → y ≤ length mid → take (length front + y) (front ++ (mid ++ back)) ≡ front ++ take y mid
 take_middle [] mid back y l = ap (λ (n : ℕ). take n (mid ++ back)) (let e : 0 + y ≡ y = omega arith in e) ∙ by mid y l
   where
     by : (xs : List Item) (y : ℕ) → y ≤ length xs → take y (xs ++ back) ≡ take y xs

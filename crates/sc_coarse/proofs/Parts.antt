@@ -10,7 +10,7 @@ use Rattle.sc_sched.specs.PrioritySchedules.{IsPrioritySchedule}
 use Rattle.sc_sched.proofs.InSequence.{legal_none}
 use Rattle.sc_coarse.specs.declared.block.Block.{Block}
 use Rattle.sc_coarse.specs.declared.block.Block.TheVariants as block
-use Rattle.sc_coarse.specs.Building.{stretch_part, with_open}
+use Rattle.sc_coarse.specs.Building.{IsSingle, stretch_part, with_open}
 use Rattle.sc_coarse.specs.CoarseRule.{Part, Stretch, Single, with_plain, parts_from, ones, item_step, AreStretchBlocks, ArePartBlocks, AreBlocks, IsCoarseRule}
 
 -- a plain item that joins the stretch that is begun with
@@ -82,7 +82,7 @@ module _ (comes : Rank → Rank → Bool) (k d : ℕ) where
   stretch_blocks (x ∷ xs) gs blocks same (first, rest, e, here, more) =
       subst (AreStretchBlocks comes k d (x ∷ xs) gs) (sym (e ∙ (ap (λ (bs : List Block). first ++ bs) more ∙ append-nil first))) here
 
--- items that end no stretch, and those that stand alone
+-- items that end no stretch
 abbrev pub IsQuiet : List Item → Type 0
 IsQuiet [] = Unit {0}
 IsQuiet (item.Fresh class n ∷ items) = IsQuiet items
@@ -90,13 +90,6 @@ IsQuiet (item.Gate gate ∷ items) = IsQuiet items
 IsQuiet (item.Call callee wires ∷ items) = ⊥
 IsQuiet (item.Gates gate turns ∷ items) = ⊥
 IsQuiet (item.Calls callee wires turns ∷ items) = ⊥
-
-abbrev pub IsSingle : Item → Type 0
-IsSingle (item.Fresh class n) = ⊥
-IsSingle (item.Gate gate) = ⊥
-IsSingle (item.Call callee wires) = Unit {0}
-IsSingle (item.Gates gate turns) = Unit {0}
-IsSingle (item.Calls callee wires turns) = Unit {0}
 
 -- the positions and the gates of the plain ones among them
 abbrev pub plain_items : ℕ → List Item → List ℕ

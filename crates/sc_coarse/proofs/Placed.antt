@@ -1,5 +1,5 @@
 -- The wires of a body are placed one to one.
-use Rattle.std.proofs.Common.{◌≡◌, ℕ, zero, suc, ◌+◌, ◌<◌, ◌≤◌, Bool, true, false, ◌||◌, List, [], ◌∷◌, ◌++◌, map, length, Option, Some, None, refl, sym, ap, ◌∙◌, subst, arith, inl, inr, append_assoc}
+use Rattle.std.proofs.Common.{◌≡◌, ◌≢◌, ℕ, zero, suc, ◌+◌, ◌<◌, ◌≤◌, Bool, true, false, ◌||◌, List, [], ◌∷◌, ◌++◌, map, length, Option, Some, None, refl, sym, ap, ◌∙◌, subst, arith, inl, inr, append_assoc}
 use Rattle.std.specs.Prelude.{option_to_list, flat_map}
 use Rattle.std.specs.Option.{option_map}
 use Rattle.std.specs.List.{AllByRecursion}
@@ -9,7 +9,7 @@ use Rattle.sc_base.specs.declared.names.Class.{Class}
 use Rattle.sc_base.specs.declared.names.Class.TheVariants.{Q, C}
 use Rattle.sc_gate.specs.declared.gate.Wire.{Wire}
 use Rattle.sc_gate.specs.declared.gate.Gate.{Gate}
-use Rattle.sc_gate.specs.Gates.{class_of, operands, AreDistinct}
+use Rattle.sc_gate.specs.Gates.{class_of, operands, IsNew, AreDistinct}
 use Rattle.sc_gate.specs.Numbers.{Numbers, number_of, with_more, IsThere, AreThere}
 use Rattle.sc_gate.specs.Renaming.{rename_gate, IsOneToOneOn}
 use Rattle.sc_gate.specs.Wires.{same_wire, member}
@@ -21,8 +21,9 @@ use Rattle.sc_deck.specs.Bodies.{after_items, ItemsFit}
 use Rattle.sc_deck.specs.Events.{Event, after_events}
 use Rattle.sc_deck.specs.Items.{after_item, WiresFit}
 use Rattle.sc_deck.specs.Placing.{put, shifted, Sized}
-use Rattle.sc_deck.specs.Unfolding.{Unfolding, unfold_item, unfold_items, places_with, places_after, placed, of_class, wires_from}
-use Rattle.sc_deck.proofs.FormedLaws.{Fine, put-one_to_one, distinct-made, there_later}
+use Rattle.sc_deck.specs.Renaming.{wire}
+use Rattle.sc_deck.specs.Unfolding.{Unfolding, unfold_item, unfold_items, places_with, places_after, placed, of_class, wires_from, numbered}
+use Rattle.sc_deck.proofs.FormedLaws.{Fine, put-one_to_one, there_later}
 use Rattle.sc_deck.proofs.PlaceLaws.{Sized-item, placed-before}
 use Rattle.sc_deck.proofs.SequenceLaws.{after_events-append}
 use Rattle.sc_deck.proofs.WireLaws.{more_of, made_all}
@@ -31,11 +32,43 @@ all_then : (P : Wire → Type 0) (xs ys : List Wire) → AllByRecursion P xs →
 all_then P [] ys a b = b
 all_then P (x ∷ xs) ys a b = (a.0, all_then P xs ys a.1 b)
 
+new_then : (w : Wire) (xs ys : List Wire) → IsNew w xs → IsNew w ys → IsNew w (xs ++ ys)
+new_then w [] ys a b = b
+new_then w (x ∷ xs) ys a b = (a.0, new_then w xs ys a.1 b)
+
+-- wires below the next numbers are none of those from there on
+new_made : (next : Numbers) (w : Wire) → IsThere next w → (class : Class) (first n : ℕ) → number_of class next ≤ first → IsNew w (wires_from class first n)
+new_made next w there class first zero le = tt
+new_made next w there class first (suc n) le = (differ, new_made next w there class (suc first) n (omega arith))
+  where
+    differ : w ≢ wire class first
+    differ e =
+        let h : first < number_of class next = subst (λ (v : Wire). v.number < number_of v.class next) e there in
+        omega arith
+
+later_made : (class : Class) (k first n : ℕ) → k < first → IsNew (wire class k) (wires_from class first n)
+later_made class k first zero lt = tt
+later_made class k first (suc n) lt = (differ, later_made class k (suc first) n (omega arith))
+  where
+    differ : wire class k ≢ wire class first
+    differ e = let h : k ≡ first = ap (λ (w : Wire). w.number) e in omega arith
+
+distinct_made : (class : Class) (first n : ℕ) → AreDistinct (wires_from class first n)
+distinct_made class first zero = tt
+distinct_made class first (suc n) = (later_made class first (suc first) n (omega arith), distinct_made class (suc first) n)
+
+distinct_more : (next : Numbers) (places : List Wire) → AreThere next places → AreDistinct places → (class : Class) (n : ℕ) → AreDistinct (places ++ wires_from class (number_of class next) n)
+distinct_more next [] there distinct class n = distinct_made class (number_of class next) n
+distinct_more next (w ∷ places) there distinct class n = (
+  new_then w places (wires_from class (number_of class next) n) distinct.0 (new_made next w there.0 class (number_of class next) n (omega arith)),
+  distinct_more next places there.1 distinct.1 class n,
+)
+
 -- the places of a body after items
 pub fine_item : (us : List Unfolding) (places : List Wire) (numbers next : Numbers) (i : Item) → Fine places numbers next → Fine (places_with i places next) (after_item numbers i) (after_events next (unfold_item us i places next))
 fine_item us places numbers next (item.Fresh class n) fine = record {
   sized = Sized-item places numbers (item.Fresh class n) next fine.sized;
-  distinct = distinct-made next places fine.there fine.distinct class n;
+  distinct = distinct_more next places fine.there fine.distinct class n;
   there = all_then (IsThere (with_more class n next)) places (wires_from class (number_of class next) n)
       (there_later next (unfold_item us (item.Fresh class n) places next) places fine.there)
       (made_all (IsThere (with_more class n next)) class (number_of class next) n (λ k from to. let e = more_of class n next in omega arith));
@@ -147,3 +180,45 @@ there_after numbers (i ∷ items) ws there = there_after (after_item numbers i) 
     all : (ws : List Wire) → AreThere numbers ws → AreThere (after_item numbers i) ws
     all [] there = tt
     all (w ∷ ws) there = (let h = there.0 in let g = grows_item numbers i w.class in omega arith, all ws there.1)
+
+-- the parameter wires of an expansion are distinct, and are there
+grows_one : (c class : Class) (next : Numbers) → number_of class next ≤ number_of class (with_more c 1 next)
+grows_one Q Q next = omega arith
+grows_one Q C next = omega arith
+grows_one C Q next = omega arith
+grows_one C C next = omega arith
+
+here_one : (c : Class) (next : Numbers) → number_of c next < number_of c (with_more c 1 next)
+here_one Q next = omega arith
+here_one C next = omega arith
+
+new_numbered : (class : Class) (k : ℕ) (classes : List Class) (next : Numbers) → k < number_of class next → IsNew (wire class k) (numbered classes next)
+new_numbered class k [] next lt = tt
+new_numbered class k (c ∷ classes) next lt = (differ, new_numbered class k classes (with_more c 1 next) (let g = grows_one c class next in omega arith))
+  where
+    differ : wire class k ≢ wire c (number_of c next)
+    differ e =
+        let h : number_of c next < number_of c next = subst (λ (v : Wire). v.number < number_of v.class next) e lt in
+        omega arith
+
+pub numbered_distinct : (classes : List Class) (next : Numbers) → AreDistinct (numbered classes next)
+numbered_distinct [] next = tt
+numbered_distinct (c ∷ classes) next = (new_numbered c (number_of c next) classes (with_more c 1 next) (here_one c next), numbered_distinct classes (with_more c 1 next))
+
+numbered_step : (class c : Class) (classes : List Class) (next : Numbers) →
+    number_of class (with_more c 1 next) + length (of_class class (numbered classes (with_more c 1 next))) ≡ number_of class next + length (of_class class (numbered (c ∷ classes) next))
+numbered_step Q Q classes next = omega arith
+numbered_step Q C classes next = refl
+numbered_step C Q classes next = refl
+numbered_step C C classes next = omega arith
+
+numbered_first : (c : Class) (classes : List Class) (next : Numbers) → 0 < length (of_class c (numbered (c ∷ classes) next))
+numbered_first Q classes next = omega arith
+numbered_first C classes next = omega arith
+
+pub numbered_there : (all : Numbers) (classes : List Class) (next : Numbers) → ((class : Class) → number_of class next + length (of_class class (numbered classes next)) ≤ number_of class all) → AreThere all (numbered classes next)
+numbered_there all [] next fit = tt
+numbered_there all (c ∷ classes) next fit = (
+  (let f = fit c in let h = numbered_first c classes next in omega arith),
+  numbered_there all classes (with_more c 1 next) (λ class. (let e = numbered_step class c classes next in let f = fit class in omega (arith, e, f))),
+)

@@ -8,7 +8,7 @@ use Rattle.sc_coarse.specs.CoarseRule.{AreStretchBlocks, IsCoarseRule, turn_bloc
 use Rattle.sc_coarse.specs.CoarseSchedules.{TurnBlock, IsCoarseSchedule}
 use Rattle.sc_coarse.proofs.Parts.{IsQuiet, plain_items, plain_gates, by_parts}
 use Rattle.sc_coarse.proofs.SingleTurns.{single_turns}
-use Rattle.sc_coarse.proofs.StretchTurns.{stretch_blocks_are, stretch_turns}
+use Rattle.sc_coarse.proofs.StretchTurns.{turns_step, stretch_blocks_are, stretch_turns}
 use Rattle.sc_coarse.proofs.TurnBlocks.{Covers, covers_join, covers_all}
 
 module _ (comes : Rank → Rank → Bool) (k d : ℕ) (whole : List Item) where
@@ -19,7 +19,7 @@ module _ (comes : Rank → Rank → Bool) (k d : ℕ) (whole : List Item) where
       AreStretchBlocks comes k d (plain_items (length front) mid) (plain_gates mid) blocks → Holds (length front) (length front + length mid) blocks
   stretch front mid back is quiet blocks h =
       subst (Covers whole (length front) (length front + length mid)) (sym (ap (all_turn_blocks whole) h.blocks_are ∙ stretch_blocks_are whole (plain_items (length front) mid) h.steps))
-      (subst (λ (items : List Item). Covers items (length front) (length front + length mid) _) (sym is) (stretch_turns front mid back quiet k d h.steps h.priority.legal))
+      (subst (λ (items : List Item). Covers items (length front) (length front + length mid) (map (turns_step (plain_items (length front) mid)) h.steps)) (sym is) (stretch_turns front mid back quiet k d h.steps h.priority.legal))
 
   join : (a b c : ℕ) (bs cs : List Block) → a ≤ b → b ≤ c → Holds a b bs → Holds b c cs → Holds a c (bs ++ cs)
   join a b c bs cs one two first second =

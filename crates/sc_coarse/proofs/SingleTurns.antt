@@ -12,9 +12,9 @@ use Rattle.sc_deck.specs.declared.item.Item.TheVariants as item
 use Rattle.sc_sched.specs.Schedule.{positions}
 use Rattle.sc_coarse.specs.declared.block.Block.{Block}
 use Rattle.sc_coarse.specs.declared.block.Block.TheVariants as block
+use Rattle.sc_coarse.specs.Building.{IsSingle}
 use Rattle.sc_coarse.specs.CoarseRule.{turn_step, turn_call, single_blocks, turn_blocks, all_turn_blocks}
 use Rattle.sc_coarse.specs.CoarseSchedules.{Turn, turn, TurnBlock, OneStep, gate_turns, call_turns, item_turns, IsTurn, IsGateTurn, IsCallTurn, SuitsItems, same_turn, times_in_block, times_in_blocks, block_of}
-use Rattle.sc_coarse.proofs.Parts.{IsSingle}
 use Rattle.sc_coarse.proofs.TurnBlocks.{Covers, block_of-old, block_of-new}
 
 same_here : (t : Turn) (x n : ℕ) → t.item ≡ x → t.number ≡ n → same_turn t (turn x n) ≡ true

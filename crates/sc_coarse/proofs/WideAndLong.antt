@@ -11,7 +11,8 @@ use Rattle.std.proofs.lemmas.List.Folds.{list_any_at, list_any_more}
 use Rattle.sc_gate.specs.declared.gate.Gate.{Gate}
 use Rattle.sc_deck.specs.declared.item.Item.{Item}
 use Rattle.sc_deck.specs.declared.item.Item.TheVariants as item
-use Rattle.sc_deck.specs.Modules.{Module}
+use Rattle.sc_deck.specs.Bodies.{Contents}
+use Rattle.sc_deck.specs.Modules.{Module, body_of}
 use Rattle.sc_coarse.specs.CoarseRule.{Part, Stretch, Single, with_plain, parts_from, parts_of}
 use Rattle.sc_coarse.specs.Refusals.{is_long, gates_with, body_too_large, module_too_large, deck_too_large, item_width, items_of, width_in, width_at}
 
@@ -135,3 +136,22 @@ pub none_large_more : (modules : List Module) (i : ℕ) (items : List Item) → 
 none_large_more modules i items at before here = (let (m, e, same) = module_found (slice_get modules i) items at in
     list_any_more module_too_large modules i m (slice_get_within modules i m e)
     ∙ (ap (λ (b : Bool). b || module_too_large (get_or modules i m)) before ∙ (ap module_too_large (get_or_from_slice_get modules i m m e) ∙ (ap body_too_large same ∙ here))))
+
+pub items_found : (o : Option Module) (b : Contents) (items : List Item) → Some b ≡ option_map body_of o → items ≡ b.items → option_map items_of o ≡ Some items
+items_found None b items e same = absurd (none-some b (sym e))
+items_found (Some m) b items e same = (let f : body_of m ≡ b = cc in ap Some (ap (λ (c : Contents). c.items) f ∙ sym same))
+
+pub width_none : (modules : List Module) (i x : ℕ) → length modules ≤ i → width_at modules i x ≡ 0
+width_none [] i x past = refl
+width_none (m ∷ modules) zero x past = absurd (omega arith)
+width_none (m ∷ modules) (suc i) x past = width_none modules i x (omega arith)
+
+-- one more body with no wide item
+pub narrow_more : (modules : List Module) (i : ℕ) (items : List Item) (d : ℕ) → option_map items_of (slice_get modules i) ≡ Some items → ((j y : ℕ) → j < i → width_at modules j y ≤ d) →
+    ((y : ℕ) → width_in items y ≤ d) → (j y : ℕ) → j < i + 1 → width_at modules j y ≤ d
+narrow_more modules i items d at before here j y l = elim (cases_lt j i) [
+  | inl lt ↦ before j y lt
+  | inr ge ↦ (let same : j ≡ i = omega arith in
+      let e : width_at modules j y ≡ width_in items y = ap (λ (n : ℕ). width_at modules n y) same ∙ width_found modules i items y at in
+      let h = here y in omega (arith, e, h))
+]

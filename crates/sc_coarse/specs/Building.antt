@@ -2,9 +2,18 @@
 use Rattle.std.specs.Prelude.{◌≡◌, ℕ, Bool, List, [], ◌∷◌, ◌++◌, length}
 use Rattle.sc_gate.specs.declared.gate.Gate.{Gate}
 use Rattle.sc_deck.specs.declared.item.Item.{Item}
+use Rattle.sc_deck.specs.declared.item.Item.TheVariants as item
 use Rattle.sc_sched.specs.declared.order.Rank.{Rank}
 use Rattle.sc_coarse.specs.declared.building.Building.{Building}
 use Rattle.sc_coarse.specs.CoarseRule.{Part, Stretch, Single, parts_from, AreBlocks}
+
+-- a call or a repeated gate
+abbrev pub IsSingle : Item → Type 0
+IsSingle (item.Fresh class n) = ⊥
+IsSingle (item.Gate gate) = ⊥
+IsSingle (item.Call callee wires) = Unit {0}
+IsSingle (item.Gates gate turns) = Unit {0}
+IsSingle (item.Calls callee wires turns) = Unit {0}
 
 -- a stretch of its own, where it has an item
 abbrev pub stretch_part : List ℕ → List Gate → List Part

@@ -3,7 +3,7 @@ ghost use Rattle.std.specs.Prelude.{◌≡◌, ◌≤◌, ◌<◌, ◌+◌, ◌�
 ghost use Rattle.sc_deck.specs.declared.item.Item.{Item as ItemValue};
 ghost use Rattle.sc_sched.specs.Legal.{Region as Positions};
 ghost use Rattle.sc_coarse.specs.CoarseRule.{Part, parts_of, item_step, IsCoarseRule, AreBlocks};
-ghost use Rattle.sc_coarse.specs.Building.{stretch_part, IsBuilt};
+ghost use Rattle.sc_coarse.specs.Building.{IsSingle, stretch_part, IsBuilt};
 
 use crate::Block;
 use sc_base::{List, Memory};
@@ -101,6 +101,26 @@ impl Building {
         Ok(())
     }
 
+    /// Adds a call or a repeated gate, which ends the stretch.
+    fn add_single<P: Priority>(
+        &mut self,
+        alloc: Global,
+        at: u32,
+        k: u32,
+        d: u32,
+        order: &P,
+    ) -> Result<(), Memory>
+        requires k { 1 ≤ k }
+        requires d { 1 ≤ d }
+        requires same { length self.old.items.items ≡ length self.old.gates.items }
+        ensures built { OnOk result ((parts : Values Part) (item : ItemValue) (rest : Values ItemValue) → IsSingle item → IsBuilt (P.comes order.now) k d parts at (item ∷ rest) self.old →
+            IsBuilt (P.comes order.now) k d parts (at + 1) rest self.new) }
+    {
+        self.end_stretch(alloc, k, d, order)?;
+        self.blocks.push(Block::Alone(at))?;
+        Ok(())
+    }
+
     /// Adds the item at a position. A gate that is applied once joins the stretch; a call and a repeated gate end it.
     fn add_item<P: Priority>(
         &mut self,
@@ -125,8 +145,7 @@ impl Building {
                 Ok(())
             }
             Item::Call(..) | Item::Gates(..) | Item::Calls(..) => {
-                self.end_stretch(alloc, k, d, order)?;
-                self.blocks.push(Block::Alone(at))
+                self.add_single(alloc, at, k, d, order)
             }
         }
     }

@@ -105,7 +105,7 @@ fn schedule_all<P: Priority>(
     for i in 0..deck.len() {
         let items = items_at(deck, i);
         let blocks = blocks_of(alloc, items, k, d, order)?;
-        has_range(tally, i);
+        gates_have_range(tally, i);
         let length = length_of(blocks.as_slice(), items, instances.as_slice());
         instances.push(Instance { length, blocks })?;
     }
@@ -113,10 +113,16 @@ fn schedule_all<P: Priority>(
 }
 
 /// Tells that the number of gates of an instance is in range.
-fn has_range(tally: &Tally, i: u32)
+fn gates_have_range(tally: &Tally, i: u32)
     ensures { (c : Counts) → slice_get tally.now.counts i ≡ Some c → c.gates < 2 ^ 128 }
 {
     if let Some(counts) = tally.at(i) {
-        let _ = counts.gates;
+        has_range(counts.gates);
     }
+}
+
+fn has_range(n: u128)
+    ensures { n < 2 ^ 128 }
+{
+    let _ = n;
 }

@@ -119,7 +119,7 @@ fn push_block<O: Sink>(block: &Block, held: &mut Gathered, out: &mut O) -> Resul
 {
     match block {
         Block::Step(regions) => push_step(regions.as_slice(), held, out),
-        Block::Alone(x) => held.push(line_of(b"alone", u128::from(*x)).as_bytes(), out),
+        Block::Alone(x) => held.push(line_of(b"alone", *x as u128).as_bytes(), out),
     }
 }
 
@@ -204,8 +204,8 @@ fn push_head<O: Sink>(k: u32, d: u32, held: &mut Gathered, out: &mut O) -> Resul
     ensures cause { HasCause (O.faults out.old) (O.faults out.new) result }
 {
     held.push(b"coarse 1\n", out)?;
-    held.push(line_of(b"regions", u128::from(k)).as_bytes(), out)?;
-    held.push(line_of(b"width", u128::from(d)).as_bytes(), out)?;
+    held.push(line_of(b"regions", k as u128).as_bytes(), out)?;
+    held.push(line_of(b"width", d as u128).as_bytes(), out)?;
     Ok(())
 }
 

@@ -9,10 +9,10 @@ narrow_here : (items : List Item) (x d n : ℕ) (i : Item) → x < length items 
 narrow_here items x d n i l is e h = omega (arith, width_here items x i l is, e, h)
 
 pub loop-x-preserved : goal.loop-x-preserved
-loop-x-preserved c = below_more _ _ c.loop-x.invariant (narrow_here c.args.items.now c.loop-x.x c.args.d c.width.result _ c.loop-x-test.true ? c.width.ensures c.if-width-d.false)
+loop-x-preserved c = below_more _ _ c.loop-x.invariant (narrow_here c.args.items.now c.loop-x.x c.args.d c.width.result _ c.loop-x-test.true c.index-items-x.is c.width.ensures c.if-width-d.false)
 
 pub returns-then-width-d-clause-wide : goal.returns-then-width-d-clause-wide
-returns-then-width-d-clause-wide c = ?
+returns-then-width-d-clause-wide c = (let e = width_here c.args.items.now c.loop-x.x c.index-items-x.result c.loop-x-test.true c.index-items-x.is in omega (arith, e, c.width.ensures, c.if-width-d.true))
 
 pub returns-then-width-d-clause-first : goal.returns-then-width-d-clause-first
 returns-then-width-d-clause-first c = c.loop-x.invariant

@@ -5,10 +5,10 @@ use Rattle.sc_coarse.proofs.WideAndLong.{large_at, none_large_more}
 use Rattle.sc_coarse.proofs.limits.is_too_large.Goals as goal
 
 pub returns-then-body_is_too_large : goal.returns-then-body_is_too_large
-returns-then-body_is_too_large c = ?
+returns-then-body_is_too_large c = sym (large_at c.args.deck.now c.loop-i.i _ c.items_at.ensures (sym c.body_is_too_large.ensures ∙ c.if-body_is_too_large.true))
 
 pub loop-i-preserved : goal.loop-i-preserved
-loop-i-preserved c = ?
+loop-i-preserved c = none_large_more c.args.deck.now c.loop-i.i _ c.items_at.ensures c.loop-i.invariant (sym c.body_is_too_large.ensures ∙ c.if-body_is_too_large.false)
 
 pub returns : goal.returns
 returns c =
