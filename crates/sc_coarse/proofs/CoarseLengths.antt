@@ -35,7 +35,7 @@ item_length-same f h n same (item.Call callee wires) below = same callee below
 item_length-same f h n same (item.Gates gate turns) below = refl
 item_length-same f h n same (item.Calls callee wires turns) below = ap (λ (m : ℕ). turns * m) (same callee below)
 
-got_all : (P : Item → Type 0) (items : List Item) → All P items → (x : ℕ) (i : Item) → slice_get items x ≡ Some i → P i
+pub got_all : (P : Item → Type 0) (items : List Item) → All P items → (x : ℕ) (i : Item) → slice_get items x ≡ Some i → P i
 got_all P [] all x i at = absurd (cc)
 got_all P (j ∷ items) all zero i at = let e : j ≡ i = cc in subst P e (All-head P j items all)
 got_all P (j ∷ items) all (suc x) i at = got_all P items (All-tail P j items all) x i at
