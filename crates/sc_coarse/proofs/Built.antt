@@ -3,6 +3,7 @@ use Rattle.std.proofs.Common.{◌≡◌, ℕ, zero, suc, ◌+◌, ◌<◌, ◌�
 use Rattle.std.specs.Prelude.{All}
 use Rattle.std.proofs.lemmas.List.{append-nil, length-append, drop_all}
 use Rattle.std.proofs.Math.Seq.{drop-cons}
+use Rattle.sc_base.specs.declared.names.Class.{Class}
 use Rattle.sc_gate.specs.declared.gate.Gate.{Gate}
 use Rattle.sc_deck.specs.declared.item.Item.{Item}
 use Rattle.sc_deck.specs.declared.item.Item.TheVariants as item
@@ -37,14 +38,9 @@ module _ (comes : Rank → Rank → Bool) (k d : ℕ) where
   none_begun done blocks [] gs same none h = subst (λ (ps : List Part). AreBlocks comes k d ps blocks) (sym (append-nil done)) h
   none_begun done blocks (x ∷ xs) gs same none h = absurd (omega arith)
 
-  pub built_fresh : (parts : List Part) (x : ℕ) (i : Item) (rest : List Item) (b : Building) → ((items : List Item) → parts_from x (i ∷ items) ≡ parts_from (x + 1) items) →
-      IsBuilt comes k d parts x (i ∷ rest) b → IsBuilt comes k d parts (x + 1) rest b
-  built_fresh parts x i rest b skips h = record {
-    done = h.done;
-    blocks = h.blocks;
-    whole = h.whole ∙ ap (λ (ps : List Part). h.done ++ with_open b.items.items b.gates.items ps) (skips rest);
-    same = h.same;
-  }
+  pub built_fresh : (parts : List Part) (x : ℕ) (class : Class) (n : ℕ) (rest : List Item) (b : Building) →
+      IsBuilt comes k d parts x (item.Fresh class n ∷ rest) b → IsBuilt comes k d parts (x + 1) rest b
+  built_fresh parts x class n rest b h = record { done = h.done; blocks = h.blocks; whole = h.whole; same = h.same }
 
   pub built_gate : (parts : List Part) (x : ℕ) (g : Gate) (rest : List Item) (b c : Building) → c.blocks ≡ b.blocks → c.items.items ≡ b.items.items ++ x ∷ [] → c.gates.items ≡ b.gates.items ++ g ∷ [] →
       IsBuilt comes k d parts x (item.Gate g ∷ rest) b → IsBuilt comes k d parts (x + 1) rest c

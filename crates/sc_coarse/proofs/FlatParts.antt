@@ -387,8 +387,8 @@ module _ (us : List Unfolding) (before : List Module) (sizes : ℕ → ℕ) (cal
         ap length (gates_of_front front rest is)
         ∙ items_size wires numbers next fine front (fits_front numbers front rest (subst (ItemsFit numbers) is fits)) (calls_front before front rest (subst (CallsFit before) is calls))
 
-    gates_more : (front items : List Item) → gates_in (unfold_items us (front ++ items) wires next)
-    ≡ gates_in (unfold_items us front wires next) ++ gates_in (unfold_items us items (places_after us front wires next) (after_events next (unfold_items us front wires next)))
+    gates_more : (front items : List Item) → gates_in (unfold_items us (front ++ items) wires next) ≡
+        gates_in (unfold_items us front wires next) ++ gates_in (unfold_items us items (places_after us front wires next) (after_events next (unfold_items us front wires next)))
     gates_more front items = ap gates_in (unfold_items-append us front items wires next)
         ∙ gates_in-append (unfold_items us front wires next) (unfold_items us items (places_after us front wires next) (after_events next (unfold_items us front wires next)))
 
