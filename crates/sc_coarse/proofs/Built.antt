@@ -1,9 +1,11 @@
 -- The blocks of a body while they are made.
-use Rattle.std.proofs.Common.{◌≡◌, ℕ, zero, suc, ◌+◌, ◌<◌, ◌≤◌, Bool, List, [], ◌∷◌, ◌++◌, length, get_or, drop, map, refl, sym, ap, ◌∙◌, subst, arith, append_assoc, add-one}
-use Rattle.std.specs.Prelude.{All}
+use Rattle.std.proofs.Common.{◌≡◌, ℕ, zero, suc, ◌+◌, ◌<◌, ◌≤◌, Bool, List, [], ◌∷◌, ◌++◌, length, get_or, drop, map, refl, sym, ap, ◌∙◌, subst, arith, append_assoc, inl, inr}
+use Rattle.std.specs.Prelude.{◌⊎◌, ◌==◌, false, Result, Ok, Err, OnOk}
+use Rattle.std.proofs.lemmas.Bool.{cases_lt, eqb-false}
 use Rattle.std.proofs.lemmas.List.{append-nil, length-append, drop_all}
 use Rattle.std.proofs.Math.Seq.{drop-cons}
 use Rattle.sc_base.specs.declared.names.Class.{Class}
+use Rattle.sc_gate.specs.declared.gate.Wire.{Wire}
 use Rattle.sc_gate.specs.declared.gate.Gate.{Gate}
 use Rattle.sc_deck.specs.declared.item.Item.{Item}
 use Rattle.sc_deck.specs.declared.item.Item.TheVariants as item
@@ -23,6 +25,19 @@ single_part x (item.Gate gate) rest lone = absurd lone
 single_part x (item.Call callee wires) rest lone = refl
 single_part x (item.Gates gate turns) rest lone = refl
 single_part x (item.Calls callee wires turns) rest lone = refl
+
+-- each of the three
+pub any_single : (i : Item) → ((x : ℕ) × (ws : List Wire) × (i ≡ item.Call x ws)) ⊎ (((g : Gate) × (n : ℕ) × (i ≡ item.Gates g n)) ⊎ ((x : ℕ) × (ws : List Wire) × (n : ℕ) × (i ≡ item.Calls x ws n))) → IsSingle i
+any_single i (inl (x, ws, e)) = subst IsSingle (sym e) tt
+any_single i (inr (inl (g, n, e))) = subst IsSingle (sym e) tt
+any_single i (inr (inr (x, ws, n, e))) = subst IsSingle (sym e) tt
+
+pub some_of : (n : ℕ) → (n == 0) ≡ false → 0 < n
+some_of n h = elim (cases_lt 0 n) [ inl l ↦ l | inr g ↦ absurd (eqb-false n 0 h (omega arith)) ]
+
+pub OnOk-map : {X E P Q : Type 0} (r : Result X E) → (P → Q) → OnOk r P → OnOk r Q
+OnOk-map (Ok x) f h = f h
+OnOk-map (Err e) f h = tt
 
 module _ (comes : Rank → Rank → Bool) (k d : ℕ) where
   -- a stretch with its steps

@@ -6,7 +6,7 @@ use Rattle.std.specs.Option.{option_map, option_map_or}
 use Rattle.std.proofs.lemmas.Bool.{cases_lt}
 use Rattle.std.proofs.lemmas.List.{append-nil, length-append, length-take-le}
 use Rattle.std.proofs.lemmas.List.Elements.{All-cons, All-nil}
-use Rattle.std.proofs.lemmas.List.Sums.{sum_by-cons}
+use Rattle.std.proofs.lemmas.List.Sums.{fold_more, sum_by_more}
 use Rattle.std.proofs.lemmas.Option.{slice_get_within, get_or_from_slice_get, none-some}
 use Rattle.sc_base.specs.declared.names.Class.TheVariants.{Q, C}
 use Rattle.sc_deck.specs.declared.item.Item.{Item}
@@ -17,7 +17,6 @@ use Rattle.sc_deck.proofs.CallLaws.{CallEarlier-at}
 use Rattle.sc_deck.proofs.DeckLemmas.{callee_there}
 use Rattle.sc_deck.proofs.ListLemmas.{slice_get_there}
 use Rattle.sc_count.specs.declared.counts.Counts.{Counts}
-use Rattle.sc_count.specs.declared.running.Running.{Running}
 use Rattle.sc_count.specs.declared.tally.Tally.{Tally}
 use Rattle.sc_count.specs.Callees.{no_counts, gate_counts, turned, with_part, counts_at, with_item, nothing_yet, counts_over, counts_of}
 use Rattle.sc_count.specs.Tallies.{StandsFor}
@@ -37,22 +36,39 @@ use Rattle.sc_coarse.proofs.WideAndLong.{module_found}
 sizes_in : List Counts → ℕ → ℕ
 sizes_in cs j = (counts_at cs j).gates
 
-counted : (times : List ℕ) (cs : List Counts) (items : List Item) (r : Running) →
-    (fold (with_item times cs) r items).counts.gates ≡ r.counts.gates + sum_by (item_gates (sizes_in cs)) items
+one_counted : (times : List ℕ) (cs : List Counts) (xs : List Item) (i : Item) →
+    (with_item times cs (fold (with_item times cs) nothing_yet xs) i).counts.gates ≡ (fold (with_item times cs) nothing_yet xs).counts.gates + item_gates (sizes_in cs) i
 unfolding sizes_in
-counted times cs [] r = omega arith
-counted times cs (item.Fresh C n ∷ items) r =
-    let h = counted times cs items (with_item times cs r (item.Fresh C n)) in let s = sum_by-cons (item_gates (sizes_in cs)) (item.Fresh C n) items in omega (arith, h, s)
-counted times cs (item.Fresh Q n ∷ items) r =
-    let h = counted times cs items (with_item times cs r (item.Fresh Q n)) in let s = sum_by-cons (item_gates (sizes_in cs)) (item.Fresh Q n) items in omega (arith, h, s)
-counted times cs (item.Gate gate ∷ items) r =
-    let h = counted times cs items (with_item times cs r (item.Gate gate)) in let s = sum_by-cons (item_gates (sizes_in cs)) (item.Gate gate) items in omega (arith, h, s)
-counted times cs (item.Call callee wires ∷ items) r =
-    let h = counted times cs items (with_item times cs r (item.Call callee wires)) in let s = sum_by-cons (item_gates (sizes_in cs)) (item.Call callee wires) items in omega (arith, h, s)
-counted times cs (item.Gates gate turns ∷ items) r =
-    let h = counted times cs items (with_item times cs r (item.Gates gate turns)) in let s = sum_by-cons (item_gates (sizes_in cs)) (item.Gates gate turns) items in omega (arith, h, s)
-counted times cs (item.Calls callee wires turns ∷ items) r =
-    let h = counted times cs items (with_item times cs r (item.Calls callee wires turns)) in let s = sum_by-cons (item_gates (sizes_in cs)) (item.Calls callee wires turns) items in omega (arith, h, s)
+one_counted times cs xs (item.Fresh C n) = omega arith
+one_counted times cs xs (item.Fresh Q n) = omega arith
+one_counted times cs xs (item.Gate gate) = omega arith
+one_counted times cs xs (item.Call callee wires) = omega arith
+one_counted times cs xs (item.Gates gate turns) = omega arith
+one_counted times cs xs (item.Calls callee wires turns) = omega arith
+
+counted_upto : (times : List ℕ) (cs : List Counts) (items : List Item) (n : ℕ) → n ≤ length items →
+    (fold (with_item times cs) nothing_yet (take n items)).counts.gates ≡ sum_by (item_gates (sizes_in cs)) (take n items)
+counted_upto times cs items zero few = refl
+counted_upto times cs items (suc n) few =
+    let below : n < length items = omega arith in
+    let (d, at) = slice_get_there items n below in
+    let next : suc n ≡ n + 1 = omega arith in
+    let more = fold_more (with_item times cs) nothing_yet items n d below in
+    let sum = sum_by_more (item_gates (sizes_in cs)) items n d below in
+    let one = one_counted times cs (take n items) (get_or items n d) in
+    let rest = counted_upto times cs items n (omega arith) in
+    (λ j. (fold (with_item times cs) nothing_yet (take (next j) items)).counts.gates)
+    ∙ ((λ j. (more j).counts.gates)
+    ∙ (one ∙ (ap (λ (m : ℕ). m + item_gates (sizes_in cs) (get_or items n d)) rest ∙ (sym sum ∙ (λ j. sum_by (item_gates (sizes_in cs)) (take (sym next j) items))))))
+
+items_whole : (xs : List Item) → take (length xs) xs ≡ xs
+items_whole [] = refl
+items_whole (x ∷ xs) = ap (λ (ys : List Item). x ∷ ys) (items_whole xs)
+
+counted : (times : List ℕ) (cs : List Counts) (items : List Item) → (fold (with_item times cs) nothing_yet items).counts.gates ≡ sum_by (item_gates (sizes_in cs)) items
+counted times cs items =
+    (λ j. (fold (with_item times cs) nothing_yet (sym (items_whole items) j)).counts.gates)
+    ∙ (counted_upto times cs items (length items) (omega arith) ∙ (λ j. sum_by (item_gates (sizes_in cs)) (items_whole items j)))
 
 pub sizes_made : (times : List ℕ) (modules : List Module) → IsDeck modules → (i : ℕ) (m : Module) → slice_get modules i ≡ Some m →
     sizes_in (counts_of times modules) i ≡ sum_by (item_gates (sizes_in (counts_of times modules))) m.items
@@ -60,7 +76,7 @@ unfolding sizes_in
 sizes_made times modules deck i m at =
     let cs : List Counts = counts_of times modules in
     let here : counts_at cs i ≡ counts_over times cs m = get_or_from_slice_get cs i (counts_over times cs m) no_counts (over-at times modules deck i m at) in
-    ap (λ (c : Counts). c.gates) here ∙ (counted times cs m.items nothing_yet ∙ (let e : 0 + sum_by (item_gates (sizes_in cs)) m.items ≡ sum_by (item_gates (sizes_in cs)) m.items = omega arith in e))
+    ap (λ (c : Counts). c.gates) here ∙ counted times cs m.items
 
 -- each item of a body calls earlier instances
 calls_below : (before : List Module) (items : List Item) → CallsFit before items → All (CallsBelow (length before)) items

@@ -1,7 +1,7 @@
 use Rattle.std.proofs.Common.{List, ◌∷◌, ◌⊎◌, subst, sym, refl}
 use Rattle.sc_deck.specs.declared.item.Item.{Item}
 use Rattle.sc_coarse.specs.Building.{IsSingle, IsBuilt}
-use Rattle.sc_coarse.proofs.Built.{built_fresh, built_gate}
+use Rattle.sc_coarse.proofs.Built.{built_fresh, built_gate, any_single, OnOk-map}
 use Rattle.sc_coarse.proofs.building.Building.add_item.Goals as goal
 
 pub returns-in-Fresh : goal.returns-in-Fresh
@@ -11,4 +11,6 @@ returns-in-Fresh g c = record {
 }
 
 pub returns-in-Call : goal.returns-in-Call
-returns-in-Call g c = ?
+returns-in-Call g c = record {
+  built = OnOk-map c.add_single.result (λ each parts rest h. each parts c.args.item.now rest (any_single c.args.item.now c.in-Call.is) h) c.add_single.ensures.built;
+}
