@@ -1,7 +1,7 @@
 -- The expansions of all instances: legal schedules of their flat gates, with as many steps as the lengths say.
 use Rattle.std.proofs.Common.{◌≡◌, ℕ, zero, suc, ◌+◌, ◌-◌, ◌<◌, ◌≤◌, Bool, Option, Some, None, List, [], ◌∷◌, ◌++◌, map, length, get_or, take, slice_get, refl, sym, ap, ◌∙◌, subst, arith, inl, inr, append_assoc}
 use Rattle.std.specs.Prelude.{All, flat_map}
-use Rattle.std.specs.Option.{option_map_or}
+use Rattle.std.specs.Option.{option_map, option_map_or}
 use Rattle.std.proofs.lemmas.Bool.{cases_lt}
 use Rattle.std.proofs.lemmas.List.{append-nil, length-append, length-map, length-take-le}
 use Rattle.std.proofs.lemmas.List.Concat.{flat_map-cons}
@@ -17,10 +17,10 @@ use Rattle.sc_gate.specs.Renaming.{rename_gate}
 use Rattle.sc_deck.specs.declared.item.Item.{Item}
 use Rattle.sc_deck.specs.declared.item.Item.TheVariants as item
 use Rattle.sc_deck.specs.Bodies.{IsBody}
-use Rattle.sc_deck.specs.Decks.{IsDeck}
+use Rattle.sc_deck.specs.Decks.{IsDeck, IsWhole}
 use Rattle.sc_deck.specs.Events.{Event, Return, gates_in}
-use Rattle.sc_deck.specs.Keys.{param_classes, params_of}
-use Rattle.sc_deck.specs.Modules.{Module, body_of}
+use Rattle.sc_deck.specs.Keys.{param_classes, params_of, main_key}
+use Rattle.sc_deck.specs.Modules.{Module, key_of, body_of}
 use Rattle.sc_deck.specs.Placing.{put}
 use Rattle.sc_deck.specs.Unfolding.{Unfolding, unfold_items, unfold_module, unfoldings, unfold_on, expansion, gates_of, numbered}
 use Rattle.sc_deck.proofs.CallLaws.{CallEarlier-at}
@@ -129,6 +129,14 @@ schedule_at [] c i m one at got = absurd (none-some m at)
 schedule_at (n ∷ ms) [] i m one at got = absurd (none-some one got)
 schedule_at (n ∷ ms) (x ∷ c) zero m one at got = let same : n ≡ m = cc in let alike : x ≡ one = cc in λ k. Some (all_turn_blocks (same k).items (alike k).blocks)
 schedule_at (n ∷ ms) (x ∷ c) (suc i) m one at got = schedule_at ms c i m one at got
+
+-- a whole deck has a last module
+pub last_there : (modules : List Module) → IsWhole modules → length modules - 1 < length modules
+last_there modules whole = by (slice_get modules (length modules - 1)) refl whole.main_last
+  where
+    by : (o : Option Module) → slice_get modules (length modules - 1) ≡ o → option_map key_of o ≡ Some main_key → length modules - 1 < length modules
+    by None e h = absurd (none-some main_key h)
+    by (Some m) e h = slice_get_within modules (length modules - 1) m e
 
 module _ (comes : Rank → Rank → Bool) (k d : ℕ) (modules : List Module) (deck : IsDeck modules) (c : List Instance) (made : AreMade comes k d modules (length modules) c) where
   called : ℕ → List Step

@@ -33,12 +33,11 @@ use Rattle.sc_coarse.proofs.CoarseLengths.{length_fits, blocks_length-same}
 use Rattle.sc_coarse.proofs.WideAndLong.{module_found}
 
 -- the gates that are counted of items
-sizes_in : List Counts → ℕ → ℕ
+abbrev pub sizes_in : List Counts → ℕ → ℕ
 sizes_in cs j = (counts_at cs j).gates
 
 one_counted : (times : List ℕ) (cs : List Counts) (xs : List Item) (i : Item) →
     (with_item times cs (fold (with_item times cs) nothing_yet xs) i).counts.gates ≡ (fold (with_item times cs) nothing_yet xs).counts.gates + item_gates (sizes_in cs) i
-unfolding sizes_in
 one_counted times cs xs (item.Fresh C n) = omega arith
 one_counted times cs xs (item.Fresh Q n) = omega arith
 one_counted times cs xs (item.Gate gate) = omega arith
@@ -72,7 +71,6 @@ counted times cs items =
 
 pub sizes_made : (times : List ℕ) (modules : List Module) → IsDeck modules → (i : ℕ) (m : Module) → slice_get modules i ≡ Some m →
     sizes_in (counts_of times modules) i ≡ sum_by (item_gates (sizes_in (counts_of times modules))) m.items
-unfolding sizes_in
 sizes_made times modules deck i m at =
     let cs : List Counts = counts_of times modules in
     let here : counts_at cs i ≡ counts_over times cs m = get_or_from_slice_get cs i (counts_over times cs m) no_counts (over-at times modules deck i m at) in
@@ -168,11 +166,10 @@ module _ (comes : Rank → Rank → Bool) (k d : ℕ) (modules : List Module) wh
 
   -- an instance has no more steps than gates
   module _ (deck : IsDeck modules) (tally : Tally) (stands : StandsFor tally modules) where
-    sizes : ℕ → ℕ
+    abbrev pub sizes : ℕ → ℕ
     sizes = sizes_in tally.counts
 
     sizes_are : (i : ℕ) (m : Module) → slice_get modules i ≡ Some m → sizes i ≡ sum_by (item_gates sizes) m.items
-    unfolding sizes
     sizes_are i m at =
         subst (λ (cs : List Counts). sizes_in cs i ≡ sum_by (item_gates (sizes_in cs)) m.items) (sym ((stands-made tally modules deck).0 stands)) (sizes_made tally.times modules deck i m at)
 
@@ -209,7 +206,6 @@ module _ (comes : Rank → Rank → Bool) (k d : ℕ) (modules : List Module) wh
     -- THE LENGTH of the next instance fits
     pub next_fits : (n : ℕ) (instances : List Instance) (items : List Item) (blocks : List Block) → AreMade comes k d modules n instances → n < length modules → option_map items_of (slice_get modules n) ≡ Some items →
         IsCoarseRule comes k d items blocks → ((c : Counts) → slice_get tally.counts n ≡ Some c → c.gates < 2 ^ 128) → blocks_length (length_at instances) items blocks < 2 ^ 128
-    unfolding sizes sizes_in
     next_fits n instances items blocks made below at rule range =
         let (m, e, same) = module_found (slice_get modules n) items at in
         let b = length_fits comes k d items (length_at instances) sizes (λ j. fits_each n instances made (omega arith) j (λ h lt. fits_below n instances made (omega arith) j h lt)) blocks rule in

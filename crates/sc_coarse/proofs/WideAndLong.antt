@@ -1,9 +1,9 @@
 -- Stretches that are too long, and gate items that are too wide.
 use Rattle.std.proofs.Common.{◌≡◌, ℕ, zero, suc, ◌+◌, ◌<◌, ◌≤◌, Bool, true, false, ◌||◌, Option, Some, None, List, [], ◌∷◌, length, get_or, take, drop, map, slice_get, refl, sym, ap, ◌∙◌, subst, arith, inl, inr, zero-add, add-one}
-use Rattle.std.specs.Prelude.{nat_lt, slice_index, IsSome}
+use Rattle.std.specs.Prelude.{◌↔◌, nat_lt, slice_index, Result, Err}
 use Rattle.std.specs.List.{list_any}
 use Rattle.std.specs.Option.{option_map, option_copied}
-use Rattle.std.proofs.lemmas.Bool.{cases_lt, lt-ltb, le-ltb, ltb-false, false≢true}
+use Rattle.std.proofs.lemmas.Bool.{cases_lt, cases_order, lt-ltb, le-ltb, ltb-false, false≢true}
 use Rattle.std.proofs.lemmas.List.{get_or-map, get_or_past, length-map, drop_all}
 use Rattle.std.proofs.lemmas.Option.{get_or_from_slice_get, slice_get_within, none-some}
 use Rattle.std.proofs.Math.Seq.{drop-cons}
@@ -14,7 +14,9 @@ use Rattle.sc_deck.specs.declared.item.Item.TheVariants as item
 use Rattle.sc_deck.specs.Bodies.{Contents}
 use Rattle.sc_deck.specs.Modules.{Module, body_of}
 use Rattle.sc_coarse.specs.CoarseRule.{Part, Stretch, Single, with_plain, parts_from, parts_of}
-use Rattle.sc_coarse.specs.Refusals.{is_long, gates_with, body_too_large, module_too_large, deck_too_large, item_width, items_of, width_in, width_at}
+use Rattle.sc_coarse.specs.Refusals.{is_long, gates_with, body_too_large, module_too_large, deck_too_large, item_width, items_of, width_in, width_at, IsFirstWide, NoneIsWide}
+use Rattle.sc_coarse.specs.declared.make.CoarseFault.{CoarseFault}
+use Rattle.sc_coarse.specs.declared.make.CoarseFault.TheVariants.{NarrowItem}
 
 -- some stretch is too long, where so many gates stand before the first part
 abbrev pub long_after : ℕ → List Part → Bool
@@ -155,3 +157,38 @@ narrow_more modules i items d at before here j y l = elim (cases_lt j i) [
       let e : width_at modules j y ≡ width_in items y = ap (λ (n : ℕ). width_at modules n y) same ∙ width_found modules i items y at in
       let h = here y in omega (arith, e, h))
 ]
+
+-- there is one first wide item
+first_instance_unique : (d : ℕ) (modules : List Module) (i x j y : ℕ) → IsFirstWide d modules i x → IsFirstWide d modules j y → i ≡ j
+first_instance_unique d modules i x j y h g = elim (cases_order i j) [
+  | inl e ↦ e
+  | inr r ↦ elim r [
+      | inl lt ↦ (let a = h.wide in let b = g.first_instance i x lt in absurd (omega (arith, a, b)))
+      | inr lt ↦ (let a = g.wide in let b = h.first_instance j y lt in absurd (omega (arith, a, b)))
+    ]
+]
+
+first_item_unique : (d : ℕ) (modules : List Module) (i x y : ℕ) → IsFirstWide d modules i x → IsFirstWide d modules i y → x ≡ y
+first_item_unique d modules i x y h g = elim (cases_order x y) [
+  | inl e ↦ e
+  | inr r ↦ elim r [
+      | inl lt ↦ (let a = h.wide in let b = g.first_item x lt in absurd (omega (arith, a, b)))
+      | inr lt ↦ (let a = g.wide in let b = h.first_item y lt in absurd (omega (arith, a, b)))
+    ]
+]
+
+pub narrow_iff : (T : Type 0) (d : ℕ) (modules : List Module) (j y : ℕ) → deck_too_large modules ≡ false → IsFirstWide d modules j y → (i x : ℕ) →
+    (◌≡◌ {A = Result T CoarseFault} (Err (NarrowItem j y)) (Err (NarrowItem i x))) ↔ ((deck_too_large modules ≡ false) × IsFirstWide d modules i x)
+narrow_iff T d modules j y fits h i x = (
+  λ e. (let p : j ≡ i = cc in let q : y ≡ x = cc in (fits, subst (λ (n : ℕ). IsFirstWide d modules n x) p (subst (IsFirstWide d modules j) q h))),
+  λ g. (let p : j ≡ i = first_instance_unique d modules j y i x h g.1 in
+      let q : y ≡ x = first_item_unique d modules i y x (subst (λ (n : ℕ). IsFirstWide d modules n y) p h) g.1 in
+      λ k. Err (NarrowItem (p k) (q k))),
+)
+
+pub not_narrow : {T : Type 0} (d : ℕ) (modules : List Module) (r : Result T CoarseFault) → ((i x : ℕ) → r ≡ Err (NarrowItem i x) → ⊥) → NoneIsWide d modules → (i x : ℕ) →
+    (r ≡ Err (NarrowItem i x)) ↔ ((deck_too_large modules ≡ false) × IsFirstWide d modules i x)
+not_narrow d modules r other none i x = (
+  λ e. absurd (other i x e),
+  λ g. (let a = g.1.wide in let b = none i x in absurd (omega (arith, a, b))),
+)

@@ -1,6 +1,6 @@
 //! The coarse schedules of a deck.
-ghost use Rattle.std.specs.Prelude.{◌≡◌, ◌≤◌, ◌<◌, ◌-◌, ◌^◌, ◌↔◌, ℕ, true, false, length, slice_get, Some, IfOk, Err};
-ghost use Rattle.sc_deck.specs.Decks.{IsWhole};
+ghost use Rattle.std.specs.Prelude.{◌≡◌, ◌≤◌, ◌<◌, ◌-◌, ◌^◌, ◌↔◌, ℕ, true, false, length, slice_get, Some, IfOk, OnOk, Err};
+ghost use Rattle.sc_deck.specs.Decks.{IsDeck, IsWhole};
 ghost use Rattle.sc_deck.specs.Modules.{Module};
 ghost use Rattle.sc_deck.specs.Unfolding.{gates_of};
 ghost use Rattle.sc_count.specs.declared.counts.Counts.{Counts};
@@ -99,7 +99,8 @@ fn schedule_all<P: Priority>(
     requires fits { deck_too_large deck.now ≡ false }
     requires k { 1 ≤ k }
     requires d { 1 ≤ d }
-    ensures { IfOk result (AreMade (P.comes order.now) k d deck.now (length deck.now)) }
+    ensures made { IfOk result (AreMade (P.comes order.now) k d deck.now (length deck.now)) }
+    ensures sound { OnOk result (IsDeck deck.now) }
 {
     let mut instances = List::new(alloc);
     for i in 0..deck.len() {
