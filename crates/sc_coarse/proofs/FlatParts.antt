@@ -181,7 +181,7 @@ module _ (k d : ℕ) (once : Numbers → List Event) (ws : List Wire) (s : ℕ) 
 
 module _ (us : List Unfolding) (before : List Module) (sizes : ℕ → ℕ) (called : ℕ → List Step) (k d : ℕ) (some : 1 ≤ k)
     (callees : (j : ℕ) (m : Module) → slice_get before j ≡ Some m → (wires : List Wire) (next : Numbers) → map class_of wires ≡ param_classes m.key → AreDistinct wires → AreThere next wires →
-        IsFlat k d (gates_in (unfolding_at us j wires next)) (sizes j) (called j)) where
+    IsFlat k d (gates_in (unfolding_at us j wires next)) (sizes j) (called j)) where
   call_flat : (callee : ℕ) (wires passed : List Wire) → CallFits before callee wires → map class_of passed ≡ map class_of wires → AreDistinct passed → (next : Numbers) → AreThere next passed →
       IsFlat k d (gates_in (unfolding_at us callee passed next)) (sizes callee) (called callee)
   call_flat callee wires passed fit classes distinct next there = by (slice_get before callee) refl fit
@@ -435,7 +435,6 @@ module _ (us : List Unfolding) (before : List Module) (sizes : ℕ → ℕ) (cal
 
     join : (a b c : ℕ) (bs cs : List Block) → a ≤ b → b ≤ c → Flat a b bs → Flat b c cs → Flat a c (bs ++ cs)
     join a b c bs cs one two first second =
-
         let long : length (gates_upto b) ≡ length (gates_upto a) + length first.gates = ap length first.more ∙ length-append (gates_upto a) first.gates in
         record {
           gates = first.gates ++ second.gates;

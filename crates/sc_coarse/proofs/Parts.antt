@@ -147,7 +147,7 @@ quiet_then (item.Calls callee wires turns ∷ items) more a b = absurd a
 -- Q speaks of the blocks of the items from one position on and before another.
 module _ (comes : Rank → Rank → Bool) (k d : ℕ) (whole : List Item) (Q : ℕ → ℕ → List Block → Type 0)
     (stretch : (front mid back : List Item) → whole ≡ front ++ (mid ++ back) → IsQuiet mid → (blocks : List Block) →
-        AreStretchBlocks comes k d (plain_items (length front) mid) (plain_gates mid) blocks → Q (length front) (length front + length mid) blocks)
+    AreStretchBlocks comes k d (plain_items (length front) mid) (plain_gates mid) blocks → Q (length front) (length front + length mid) blocks)
     (single : (front : List Item) (i : Item) (back : List Item) → whole ≡ front ++ i ∷ back → IsSingle i → Q (length front) (length front + 1) (block.Alone (length front) ∷ []))
     (join : (a b c : ℕ) (bs cs : List Block) → a ≤ b → b ≤ c → Q a b bs → Q b c cs → Q a c (bs ++ cs)) where
   at_end : (front mid : List Item) → whole ≡ front ++ mid → IsQuiet mid → (blocks : List Block) →

@@ -177,9 +177,9 @@ module _ (front mid back : List Item) (quiet : IsQuiet mid) where
   one_index i j l m e = elim (cases_order i j) [
     | inl s ↦ s
     | inr r ↦ elim r [
-        | inl lt ↦ (let h = plain_rising (length front) mid quiet i j lt m in absurd (omega (arith, h, e)))
-        | inr lt ↦ (let h = plain_rising (length front) mid quiet j i lt l in absurd (omega (arith, h, e)))
-      ]
+      | inl lt ↦ (let h = plain_rising (length front) mid quiet i j lt m in absurd (omega (arith, h, e)))
+      | inr lt ↦ (let h = plain_rising (length front) mid quiet j i lt l in absurd (omega (arith, h, e)))
+    ]
   ]
 
   is_index : (i : ℕ) → i < length xs → (x : ℕ) → x < length xs → cond {A = ℕ} (same_turn (stretch_turn xs i) (stretch_turn xs x)) 1 0 ≡ cond {A = ℕ} (x == i) 1 0
@@ -299,7 +299,7 @@ module _ (front mid back : List Item) (quiet : IsQuiet mid) where
       index_before t u f g lt = elim (cases_order f.index g.index) [
         | inl e ↦ (let p = item_of t f in let q = item_of u g in let s = ap (slice_index xs) e in absurd (omega (arith, p, q, s, lt)))
         | inr r ↦ elim r [
-            | inl l ↦ l
-            | inr l ↦ (let p = item_of t f in let q = item_of u g in let s = plain_rising (length front) mid quiet g.index f.index l f.inside in absurd (omega (arith, p, q, s, lt)))
-          ]
+          | inl l ↦ l
+          | inr l ↦ (let p = item_of t f in let q = item_of u g in let s = plain_rising (length front) mid quiet g.index f.index l f.inside in absurd (omega (arith, p, q, s, lt)))
+        ]
       ]

@@ -75,9 +75,9 @@ module _ (whole : List Item) (a b c : ℕ) (bs cs : List TurnBlock) (one : a ≤
   items_in t u l h is it lt w = elim (cases_lt u.item b) [
     | inl e ↦ (let p = here t l (omega arith) is in let q = here u (omega arith) e it in let r = first.items t u l e is it lt w in omega (arith, p, q, r))
     | inr e ↦ (let q = there u e in elim (cases_lt t.item b) [
-        | inl f ↦ (let p = here t l f is in let r = block_of-below bs t (let o = first.once t l f is in omega arith) in omega (arith, p, q, r))
-        | inr f ↦ (let p = there t f in let r = second.items t u f h is it lt w in omega (arith, p, q, r))
-      ])
+      | inl f ↦ (let p = here t l f is in let r = block_of-below bs t (let o = first.once t l f is in omega arith) in omega (arith, p, q, r))
+      | inr f ↦ (let p = there t f in let r = second.items t u f h is it lt w in omega (arith, p, q, r))
+    ])
   ]
 
   pub covers_join : Covers whole a c (bs ++ cs)

@@ -163,18 +163,18 @@ first_instance_unique : (d : ℕ) (modules : List Module) (i x j y : ℕ) → Is
 first_instance_unique d modules i x j y h g = elim (cases_order i j) [
   | inl e ↦ e
   | inr r ↦ elim r [
-      | inl lt ↦ (let a = h.wide in let b = g.first_instance i x lt in absurd (omega (arith, a, b)))
-      | inr lt ↦ (let a = g.wide in let b = h.first_instance j y lt in absurd (omega (arith, a, b)))
-    ]
+    | inl lt ↦ (let a = h.wide in let b = g.first_instance i x lt in absurd (omega (arith, a, b)))
+    | inr lt ↦ (let a = g.wide in let b = h.first_instance j y lt in absurd (omega (arith, a, b)))
+  ]
 ]
 
 first_item_unique : (d : ℕ) (modules : List Module) (i x y : ℕ) → IsFirstWide d modules i x → IsFirstWide d modules i y → x ≡ y
 first_item_unique d modules i x y h g = elim (cases_order x y) [
   | inl e ↦ e
   | inr r ↦ elim r [
-      | inl lt ↦ (let a = h.wide in let b = g.first_item x lt in absurd (omega (arith, a, b)))
-      | inr lt ↦ (let a = g.wide in let b = h.first_item y lt in absurd (omega (arith, a, b)))
-    ]
+    | inl lt ↦ (let a = h.wide in let b = g.first_item x lt in absurd (omega (arith, a, b)))
+    | inr lt ↦ (let a = g.wide in let b = h.first_item y lt in absurd (omega (arith, a, b)))
+  ]
 ]
 
 pub narrow_iff : (T : Type 0) (d : ℕ) (modules : List Module) (j y : ℕ) → deck_too_large modules ≡ false → IsFirstWide d modules j y → (i x : ℕ) →

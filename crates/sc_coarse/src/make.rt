@@ -13,11 +13,11 @@ ghost use Rattle.sc_coarse.specs.Expansions.{expanded};
 ghost use Rattle.sc_coarse.specs.Making.{AreMade};
 ghost use Rattle.sc_coarse.specs.Refusals.{deck_too_large, IsFirstWide};
 
+use crate::Coarse;
 use crate::building::blocks_of;
 use crate::coarse::Instance;
 use crate::lengths::length_of;
 use crate::limits::{first_wide, is_too_large, items_at};
-use crate::Coarse;
 use sc_base::{List, Memory};
 use sc_count::Tally;
 use sc_deck::Deck;

@@ -57,11 +57,7 @@ fn push_positions<O: Sink>(
 }
 
 /// Appends the line of a region.
-fn push_region<O: Sink>(
-    region: &[u32],
-    held: &mut Gathered,
-    out: &mut O,
-) -> Result<(), WriteFault>
+fn push_region<O: Sink>(region: &[u32], held: &mut Gathered, out: &mut O) -> Result<(), WriteFault>
     requires open { O.is_ended out.old ≡ false }
     ensures open { O.is_ended out.new ≡ false }
     ensures gathered { OnOk result (Gathers O.tells O.bytes out.old out.new held.old held.new (region_line region.now)) }

@@ -1,4 +1,5 @@
 use Rattle.std.proofs.Common.{◌≡◌, ◌-◌, length, sym, ap, subst, arith, ◌∙◌}
+use Rattle.sc_coarse.specs.declared.coarse.Coarse.{Coarse}
 use Rattle.sc_coarse.specs.Making.{AreMade}
 use Rattle.sc_coarse.proofs.ExpandedLaws.{length_is, expanded_legal, last_there}
 use Rattle.sc_coarse.proofs.RuleLaws.{rule_is_coarse}
@@ -28,7 +29,7 @@ returns-in-Ok-clause-length g c =
     (subst (AreMade (g.P.Priority.comes c.args.order.now) c.args.k c.args.d c.args.deck.now (length c.args.deck.now)) (sym c.new.ensures) c.in-Ok.ensures.made)
 
 pub returns-in-Some-clause-narrow : goal.returns-in-Some-clause-narrow
-returns-in-Some-clause-narrow g c = ?
+returns-in-Some-clause-narrow g c = narrow_iff Coarse c.args.d c.args.deck.now c.in-Some.i c.in-Some.x (sym c.is_too_large.ensures ∙ c.if-is_too_large.false) c.in-Some.ensures.first
 
 pub returns-in-Ok-clause-narrow : goal.returns-in-Ok-clause-narrow
 returns-in-Ok-clause-narrow g c = not_narrow c.args.d c.args.deck.now _ (λ i x e. cc) c.in_default.ensures.none
