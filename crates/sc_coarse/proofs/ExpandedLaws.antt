@@ -1,15 +1,15 @@
 -- The expansions of all instances: legal schedules of their flat gates, with as many steps as the lengths say.
-use Rattle.std.proofs.Common.{◌≡◌, ℕ, zero, suc, ◌+◌, ◌-◌, ◌<◌, ◌≤◌, Bool, Option, Some, None, List, [], ◌∷◌, ◌++◌, map, length, get_or, take, slice_get, refl, sym, ap, ◌∙◌, subst, arith, inl, inr, append_assoc}
-use Rattle.std.specs.Prelude.{All, flat_map}
+use Rattle.std.proofs.Common.{◌≡◌, ℕ, zero, suc, ◌+◌, ◌-◌, ◌<◌, ◌≤◌, Bool, Option, Some, None, List, [], ◌∷◌, ◌++◌, map, length, take, slice_get, refl, sym, ap, ◌∙◌, subst, arith, inl, inr, append_assoc}
+use Rattle.std.specs.Prelude.{All}
 use Rattle.std.specs.Option.{option_map, option_map_or}
 use Rattle.std.proofs.lemmas.Bool.{cases_lt}
-use Rattle.std.proofs.lemmas.List.{append-nil, length-append, length-map, length-take-le}
+use Rattle.std.proofs.lemmas.List.{append-nil, length-append, length-map}
 use Rattle.std.proofs.lemmas.List.Concat.{flat_map-cons}
 use Rattle.std.proofs.lemmas.List.Elements.{All-head, All-tail}
-use Rattle.std.proofs.lemmas.Option.{slice_get_within, get_or_from_slice_get, none-some}
+use Rattle.std.proofs.lemmas.Option.{slice_get_within, none-some}
 use Rattle.sc_gate.specs.declared.gate.Wire.{Wire}
 use Rattle.sc_gate.specs.declared.gate.Gate.{Gate}
-use Rattle.sc_gate.specs.Gates.{class_of, operands, AreDistinct}
+use Rattle.sc_gate.specs.Gates.{class_of, AreDistinct}
 use Rattle.sc_base.specs.declared.names.Class.{Class}
 use Rattle.sc_base.specs.declared.names.Class.TheVariants.{Q, C}
 use Rattle.sc_gate.specs.Numbers.{Numbers, number_of, no_wires, AreThere}
@@ -22,7 +22,7 @@ use Rattle.sc_deck.specs.Events.{Event, Return, gates_in}
 use Rattle.sc_deck.specs.Keys.{param_classes, params_of, main_key}
 use Rattle.sc_deck.specs.Modules.{Module, key_of, body_of}
 use Rattle.sc_deck.specs.Placing.{put}
-use Rattle.sc_deck.specs.Unfolding.{Unfolding, unfold_items, unfold_module, unfoldings, unfold_on, expansion, gates_of, numbered}
+use Rattle.sc_deck.specs.Unfolding.{unfold_items, unfoldings, unfold_on, gates_of, numbered}
 use Rattle.sc_deck.proofs.CallLaws.{CallEarlier-at}
 use Rattle.sc_deck.proofs.EarlierLaws.{unfold_on-at}
 use Rattle.sc_deck.proofs.FormedLaws.{Fine, put-one_to_one}
@@ -34,12 +34,11 @@ use Rattle.sc_sched.specs.declared.order.Rank.{Rank}
 use Rattle.sc_sched.specs.Legal.{Step, IsLegal}
 use Rattle.sc_sched.specs.Sequences.{step_behind}
 use Rattle.sc_sched.proofs.Renamed.{legal_renamed}
-use Rattle.sc_coarse.specs.declared.block.Block.{Block}
 use Rattle.sc_coarse.specs.declared.coarse.Instance.{Instance}
-use Rattle.sc_coarse.specs.CoarseRule.{all_turn_blocks, IsCoarseRule}
+use Rattle.sc_coarse.specs.CoarseRule.{all_turn_blocks}
 use Rattle.sc_coarse.specs.CoarseSchedules.{TurnBlock, OneStep, OneCall}
 use Rattle.sc_coarse.specs.Expansions.{flat_place, steps_called, callee_at, block_steps, all_steps, steps_at, flat_size, expansions_from, coarse_expansions, schedules_of, expanded}
-use Rattle.sc_coarse.specs.Lengths.{blocks_length, length_at, CallsBelow}
+use Rattle.sc_coarse.specs.Lengths.{length_at, CallsBelow}
 use Rattle.sc_coarse.specs.Making.{IsInstance, AreMade}
 use Rattle.sc_coarse.specs.Refusals.{width_in, NoneIsWide}
 use Rattle.sc_coarse.proofs.CoarseLengths.{got_all, blocks_length-same, steps_many}

@@ -1,10 +1,10 @@
 -- The coarse schedules of the first instances: they have no more steps than gates, so each length fits.
-use Rattle.std.proofs.Common.{◌≡◌, ℕ, zero, suc, ◌+◌, ◌*◌, ◌<◌, ◌≤◌, ◌^◌, Bool, false, Option, Some, None, List, [], ◌∷◌, ◌++◌, map, length, get_or, take, slice_get, refl, sym, ap, ◌∙◌, subst, arith, inl, inr}
+use Rattle.std.proofs.Common.{◌≡◌, ℕ, zero, suc, ◌+◌, ◌<◌, ◌≤◌, ◌^◌, Bool, Option, Some, List, [], ◌∷◌, ◌++◌, length, get_or, take, slice_get, refl, sym, ap, ◌∙◌, subst, arith, inl, inr}
 use Rattle.std.specs.Prelude.{All, fold}
-use Rattle.std.specs.List.{AllByRecursion, sum_by}
+use Rattle.std.specs.List.{sum_by}
 use Rattle.std.specs.Option.{option_map, option_map_or}
 use Rattle.std.proofs.lemmas.Bool.{cases_lt}
-use Rattle.std.proofs.lemmas.List.{append-nil, length-append, length-take-le}
+use Rattle.std.proofs.lemmas.List.{length-append, length-take-le}
 use Rattle.std.proofs.lemmas.List.Elements.{All-cons, All-nil}
 use Rattle.std.proofs.lemmas.List.Sums.{fold_more, sum_by_more}
 use Rattle.std.proofs.lemmas.Option.{slice_get_within, get_or_from_slice_get, none-some}
@@ -18,7 +18,7 @@ use Rattle.sc_deck.proofs.DeckLemmas.{callee_there}
 use Rattle.sc_deck.proofs.ListLemmas.{slice_get_there}
 use Rattle.sc_count.specs.declared.counts.Counts.{Counts}
 use Rattle.sc_count.specs.declared.tally.Tally.{Tally}
-use Rattle.sc_count.specs.Callees.{no_counts, gate_counts, turned, with_part, counts_at, with_item, nothing_yet, counts_over, counts_of}
+use Rattle.sc_count.specs.Callees.{no_counts, counts_at, with_item, nothing_yet, counts_over, counts_of}
 use Rattle.sc_count.specs.Tallies.{StandsFor}
 use Rattle.sc_count.proofs.TallyLaws.{stands-made, over-at}
 use Rattle.sc_sched.specs.declared.order.Rank.{Rank}
@@ -29,7 +29,7 @@ use Rattle.sc_coarse.specs.Expansions.{item_gates}
 use Rattle.sc_coarse.specs.Lengths.{blocks_length, length_at, CallsBelow}
 use Rattle.sc_coarse.specs.Making.{IsInstance, AreMade}
 use Rattle.sc_coarse.specs.Refusals.{items_of}
-use Rattle.sc_coarse.proofs.CoarseLengths.{length_fits, blocks_length-same}
+use Rattle.sc_coarse.proofs.CoarseLengths.{length_fits}
 use Rattle.sc_coarse.proofs.WideAndLong.{module_found}
 
 -- the gates that are counted of items

@@ -1,17 +1,16 @@
 -- The parts of a body, and what is shown of its blocks part by part.
-use Rattle.std.proofs.Common.{◌≡◌, ℕ, zero, suc, ◌+◌, ◌<◌, ◌≤◌, Bool, List, [], ◌∷◌, ◌++◌, length, map, refl, sym, ap, ◌∙◌, subst, arith, append_assoc}
+use Rattle.std.proofs.Common.{◌≡◌, ℕ, suc, ◌+◌, ◌≤◌, Bool, List, [], ◌∷◌, ◌++◌, length, refl, sym, ap, ◌∙◌, subst, arith, append_assoc}
 use Rattle.std.proofs.lemmas.List.{append-nil, length-append}
 use Rattle.sc_gate.specs.declared.gate.Gate.{Gate}
 use Rattle.sc_deck.specs.declared.item.Item.{Item}
 use Rattle.sc_deck.specs.declared.item.Item.TheVariants as item
 use Rattle.sc_sched.specs.declared.order.Rank.{Rank}
-use Rattle.sc_sched.specs.Legal.{Step}
 use Rattle.sc_sched.specs.PrioritySchedules.{IsPrioritySchedule}
 use Rattle.sc_sched.proofs.InSequence.{legal_none}
 use Rattle.sc_coarse.specs.declared.block.Block.{Block}
 use Rattle.sc_coarse.specs.declared.block.Block.TheVariants as block
 use Rattle.sc_coarse.specs.Building.{IsSingle, stretch_part, with_open}
-use Rattle.sc_coarse.specs.CoarseRule.{Part, Stretch, Single, with_plain, parts_from, ones, item_step, AreStretchBlocks, ArePartBlocks, AreBlocks, IsCoarseRule}
+use Rattle.sc_coarse.specs.CoarseRule.{Part, Stretch, Single, with_plain, parts_from, ones, AreStretchBlocks, ArePartBlocks, AreBlocks, IsCoarseRule}
 
 -- a plain item that joins the stretch that is begun with
 pub with_open-plain : (xs : List ℕ) (gs : List Gate) (x : ℕ) (g : Gate) (parts : List Part) →

@@ -1,6 +1,6 @@
 -- The wires of a body are placed one to one.
-use Rattle.std.proofs.Common.{◌≡◌, ◌≢◌, ℕ, zero, suc, ◌+◌, ◌<◌, ◌≤◌, Bool, true, false, ◌||◌, List, [], ◌∷◌, ◌++◌, map, length, Option, Some, None, refl, sym, ap, ◌∙◌, subst, arith, inl, inr, append_assoc}
-use Rattle.std.specs.Prelude.{option_to_list, flat_map}
+use Rattle.std.proofs.Common.{◌≡◌, ◌≢◌, ℕ, zero, suc, ◌+◌, ◌<◌, ◌≤◌, true, List, [], ◌∷◌, ◌++◌, map, length, Option, Some, None, refl, sym, ap, ◌∙◌, subst, arith, inl, inr, append_assoc}
+use Rattle.std.specs.Prelude.{option_to_list}
 use Rattle.std.specs.Option.{option_map}
 use Rattle.std.specs.List.{AllByRecursion}
 use Rattle.std.proofs.lemmas.Bool.{false≢true}
@@ -9,16 +9,16 @@ use Rattle.sc_base.specs.declared.names.Class.{Class}
 use Rattle.sc_base.specs.declared.names.Class.TheVariants.{Q, C}
 use Rattle.sc_gate.specs.declared.gate.Wire.{Wire}
 use Rattle.sc_gate.specs.declared.gate.Gate.{Gate}
-use Rattle.sc_gate.specs.Gates.{class_of, operands, IsNew, AreDistinct}
+use Rattle.sc_gate.specs.Gates.{operands, IsNew, AreDistinct}
 use Rattle.sc_gate.specs.Numbers.{Numbers, number_of, with_more, IsThere, AreThere}
 use Rattle.sc_gate.specs.Renaming.{rename_gate, IsOneToOneOn}
-use Rattle.sc_gate.specs.Wires.{same_wire, member}
+use Rattle.sc_gate.specs.Wires.{member}
 use Rattle.sc_gate.proofs.WireLemmas.{member_cases}
 use Rattle.sc_gate.proofs.RenameLemmas.{distinct-rename}
 use Rattle.sc_deck.specs.declared.item.Item.{Item}
 use Rattle.sc_deck.specs.declared.item.Item.TheVariants as item
-use Rattle.sc_deck.specs.Bodies.{after_items, ItemsFit}
-use Rattle.sc_deck.specs.Events.{Event, after_events}
+use Rattle.sc_deck.specs.Bodies.{after_items}
+use Rattle.sc_deck.specs.Events.{after_events}
 use Rattle.sc_deck.specs.Items.{after_item, WiresFit}
 use Rattle.sc_deck.specs.Placing.{put, shifted, Sized}
 use Rattle.sc_deck.specs.Renaming.{wire}

@@ -1,11 +1,11 @@
 -- The coarse schedule of the rule is a coarse schedule.
-use Rattle.std.proofs.Common.{◌≡◌, ℕ, ◌+◌, ◌≤◌, Bool, List, ◌∷◌, ◌++◌, length, map, sym, ap, ◌∙◌, subst}
+use Rattle.std.proofs.Common.{◌≡◌, ℕ, ◌+◌, ◌≤◌, Bool, List, ◌++◌, length, map, sym, ap, ◌∙◌, subst}
 use Rattle.std.proofs.lemmas.List.Concat.{flat_map-append}
 use Rattle.sc_deck.specs.declared.item.Item.{Item}
 use Rattle.sc_sched.specs.declared.order.Rank.{Rank}
 use Rattle.sc_coarse.specs.declared.block.Block.{Block}
 use Rattle.sc_coarse.specs.CoarseRule.{AreStretchBlocks, IsCoarseRule, turn_blocks, all_turn_blocks}
-use Rattle.sc_coarse.specs.CoarseSchedules.{TurnBlock, IsCoarseSchedule}
+use Rattle.sc_coarse.specs.CoarseSchedules.{IsCoarseSchedule}
 use Rattle.sc_coarse.proofs.Parts.{IsQuiet, plain_items, plain_gates, by_parts}
 use Rattle.sc_coarse.proofs.SingleTurns.{single_turns}
 use Rattle.sc_coarse.proofs.StretchTurns.{turns_step, stretch_blocks_are, stretch_turns}

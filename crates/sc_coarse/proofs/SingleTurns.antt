@@ -1,20 +1,17 @@
 -- The blocks of an item that stands alone: one for each of its turns.
-use Rattle.std.proofs.Common.{◌≡◌, ℕ, zero, suc, ◌+◌, ◌<◌, ◌≤◌, Bool, true, false, cond, Option, Some, List, [], ◌∷◌, ◌++◌, length, map, get_or, slice_get, refl, sym, ap, ◌∙◌, subst, arith, inl, inr, zero-add, add-zero}
+use Rattle.std.proofs.Common.{◌≡◌, ℕ, zero, suc, ◌+◌, ◌<◌, ◌≤◌, Bool, true, false, cond, Some, List, [], ◌∷◌, ◌++◌, length, map, slice_get, refl, sym, ap, ◌∙◌, subst, arith, inl, inr, zero-add, add-zero}
 use Rattle.std.specs.Prelude.{◌==◌, ◌&&◌, ◌⊎◌, All, slice_index}
-use Rattle.std.specs.List.{sum_by}
-use Rattle.std.proofs.lemmas.Bool.{cases_lt, cases_order, eq-eqb, ne_eqb}
+use Rattle.std.proofs.lemmas.Bool.{cases_lt, eq-eqb, ne_eqb}
 use Rattle.std.proofs.lemmas.List.{append-nil, length-append, length-map, map-append}
 use Rattle.std.proofs.lemmas.List.Elements.{All-append, All-cons, All-nil}
 use Rattle.std.proofs.lemmas.List.Sums.{sum_by-cons, sum_by-append}
-use Rattle.std.proofs.lemmas.Option.{slice_get_within, get_or_from_slice_get}
 use Rattle.sc_deck.specs.declared.item.Item.{Item}
 use Rattle.sc_deck.specs.declared.item.Item.TheVariants as item
 use Rattle.sc_sched.specs.Schedule.{positions}
-use Rattle.sc_coarse.specs.declared.block.Block.{Block}
 use Rattle.sc_coarse.specs.declared.block.Block.TheVariants as block
 use Rattle.sc_coarse.specs.Building.{IsSingle}
-use Rattle.sc_coarse.specs.CoarseRule.{turn_step, turn_call, single_blocks, turn_blocks, all_turn_blocks}
-use Rattle.sc_coarse.specs.CoarseSchedules.{Turn, turn, TurnBlock, OneStep, gate_turns, call_turns, item_turns, IsTurn, IsGateTurn, IsCallTurn, SuitsItems, same_turn, times_in_block, times_in_blocks, block_of}
+use Rattle.sc_coarse.specs.CoarseRule.{turn_step, turn_call, single_blocks, all_turn_blocks}
+use Rattle.sc_coarse.specs.CoarseSchedules.{Turn, turn, TurnBlock, OneStep, gate_turns, call_turns, item_turns, IsGateTurn, SuitsItems, same_turn, times_in_block, times_in_blocks, block_of}
 use Rattle.sc_coarse.proofs.TurnBlocks.{Covers, block_of-old, block_of-new}
 
 same_here : (t : Turn) (x n : ℕ) → t.item ≡ x → t.number ≡ n → same_turn t (turn x n) ≡ true

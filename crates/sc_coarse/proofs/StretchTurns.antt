@@ -1,14 +1,12 @@
 -- The blocks of a stretch hold the turns of its items.
-use Rattle.std.proofs.Common.{◌≡◌, ℕ, zero, suc, ◌+◌, ◌-◌, ◌<◌, ◌≤◌, Bool, true, false, cond, Option, Some, None, List, [], ◌∷◌, ◌++◌, length, map, get_or, slice_get, refl, sym, ap, ◌∙◌, subst, arith, inl, inr}
-use Rattle.std.specs.Prelude.{◌==◌, ◌&&◌, ◌⊎◌, nat_lt, All, slice_index, if◌then◌else◌}
-use Rattle.std.specs.List.{sum_by, list_any, flat_map}
+use Rattle.std.proofs.Common.{◌≡◌, ℕ, zero, suc, ◌+◌, ◌-◌, ◌<◌, ◌≤◌, true, cond, Option, Some, List, [], ◌∷◌, ◌++◌, length, map, get_or, slice_get, refl, sym, ap, ◌∙◌, subst, arith, inl, inr}
+use Rattle.std.specs.Prelude.{◌==◌, ◌⊎◌, All, slice_index}
+use Rattle.std.specs.List.{sum_by, list_any}
 use Rattle.std.specs.Option.{option_map_or}
-use Rattle.std.proofs.lemmas.Bool.{cases_Bool, cases_lt, cases_order, eq-eqb, ne_eqb, lt-ltb, le-ltb, eqb-true, eqb-false}
-use Rattle.std.proofs.lemmas.List.{length-map}
+use Rattle.std.proofs.lemmas.Bool.{cases_Bool, cases_order, eq-eqb, ne_eqb, lt-ltb, le-ltb, eqb-true, eqb-false}
 use Rattle.std.proofs.lemmas.List.Elements.{All-map, All-head, All-tail}
 use Rattle.std.proofs.lemmas.List.Concat.{flat_map-cons}
 use Rattle.std.proofs.lemmas.List.Sums.{sum_by-cons}
-use Rattle.sc_gate.specs.declared.gate.Wire.{Wire}
 use Rattle.sc_gate.specs.declared.gate.Gate.{Gate}
 use Rattle.sc_gate.specs.Gates.{operands}
 use Rattle.sc_gate.specs.Wires.{member}
@@ -18,8 +16,6 @@ use Rattle.sc_sched.specs.Gates.{both_share, shares}
 use Rattle.sc_sched.specs.Legal.{Region, Step, stands_in, times_in, times_placed, step_of, IsLegal}
 use Rattle.sc_sched.proofs.Take.{sum_same}
 use Rattle.sc_sched.proofs.StepNumbers.{times_some, times_none}
-use Rattle.sc_coarse.specs.declared.block.Block.{Block}
-use Rattle.sc_coarse.specs.declared.block.Block.TheVariants as block
 use Rattle.sc_coarse.specs.CoarseRule.{item_step, first_turn, turn_blocks, all_turn_blocks}
 use Rattle.sc_coarse.specs.CoarseSchedules.{Turn, turn, TurnBlock, OneStep, gate_turns, item_turns, IsTurn, IsGateTurn, SuitsItems, item_wires, wires_at, items_share, same_turn, times_in_block, times_in_blocks, block_of}
 use Rattle.sc_coarse.proofs.Parts.{IsQuiet, plain_items, plain_gates, plain_same}

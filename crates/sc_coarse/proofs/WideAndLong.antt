@@ -1,9 +1,9 @@
 -- Stretches that are too long, and gate items that are too wide.
-use Rattle.std.proofs.Common.{◌≡◌, ℕ, zero, suc, ◌+◌, ◌<◌, ◌≤◌, Bool, true, false, ◌||◌, Option, Some, None, List, [], ◌∷◌, length, get_or, take, drop, map, slice_get, refl, sym, ap, ◌∙◌, subst, arith, inl, inr, zero-add, add-one}
-use Rattle.std.specs.Prelude.{◌↔◌, nat_lt, slice_index, Result, Err}
+use Rattle.std.proofs.Common.{◌≡◌, ℕ, zero, suc, ◌+◌, ◌<◌, ◌≤◌, Bool, true, false, ◌||◌, Option, Some, None, List, [], ◌∷◌, length, get_or, take, drop, map, slice_get, refl, sym, ap, ◌∙◌, subst, arith, inl, inr, zero-add}
+use Rattle.std.specs.Prelude.{◌↔◌, nat_lt, Result, Err}
 use Rattle.std.specs.List.{list_any}
-use Rattle.std.specs.Option.{option_map, option_copied}
-use Rattle.std.proofs.lemmas.Bool.{cases_lt, cases_order, lt-ltb, le-ltb, ltb-false, false≢true}
+use Rattle.std.specs.Option.{option_map}
+use Rattle.std.proofs.lemmas.Bool.{cases_lt, cases_order, lt-ltb, le-ltb, false≢true}
 use Rattle.std.proofs.lemmas.List.{get_or-map, get_or_past, length-map, drop_all}
 use Rattle.std.proofs.lemmas.Option.{get_or_from_slice_get, slice_get_within, none-some}
 use Rattle.std.proofs.Math.Seq.{drop-cons}

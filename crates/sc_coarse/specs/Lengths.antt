@@ -1,5 +1,5 @@
 -- The length of a coarse schedule: how many steps its blocks stand for.
-use Rattle.std.specs.Prelude.{ℕ, ◌<◌, ◌*◌, List, Option, Some, None, slice_get}
+use Rattle.std.specs.Prelude.{ℕ, ◌<◌, ◌*◌, List, slice_get}
 use Rattle.std.specs.List.{sum_by}
 use Rattle.std.specs.Option.{option_map_or}
 use Rattle.sc_deck.specs.declared.item.Item.{Item}

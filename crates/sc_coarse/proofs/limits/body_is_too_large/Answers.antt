@@ -1,4 +1,4 @@
-use Rattle.std.proofs.Common.{◌≡◌, ◌≤◌, length, arith}
+use Rattle.std.proofs.Common.{◌≤◌, length, arith}
 use Rattle.sc_coarse.proofs.WideAndLong.{walk_begins, walk_goes_on, walk_fails, walk_ends, too_many_items}
 use Rattle.sc_coarse.proofs.limits.body_is_too_large.Goals as goal
 

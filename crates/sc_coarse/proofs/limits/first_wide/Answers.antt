@@ -1,6 +1,5 @@
-use Rattle.std.proofs.Common.{◌≡◌, ◌<◌, ◌≤◌, ℕ, length, arith, inl, inr}
+use Rattle.std.proofs.Common.{length, arith, inl, inr}
 use Rattle.std.proofs.lemmas.Bool.{cases_lt}
-use Rattle.sc_coarse.specs.Refusals.{width_at}
 use Rattle.sc_coarse.proofs.WideAndLong.{few_items, body_fits, width_found, width_none, narrow_more}
 use Rattle.sc_coarse.proofs.limits.first_wide.Goals as goal
 

@@ -1,4 +1,4 @@
-use Rattle.std.proofs.Common.{◌≡◌, ◌-◌, length, sym, ap, subst, arith, ◌∙◌}
+use Rattle.std.proofs.Common.{◌-◌, length, sym, ap, subst, ◌∙◌}
 use Rattle.sc_coarse.specs.declared.coarse.Coarse.{Coarse}
 use Rattle.sc_coarse.specs.Making.{AreMade}
 use Rattle.sc_coarse.proofs.ExpandedLaws.{length_is, expanded_legal, last_there}

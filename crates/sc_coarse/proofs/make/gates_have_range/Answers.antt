@@ -1,4 +1,4 @@
-use Rattle.std.proofs.Common.{◌≡◌, ◌<◌, ◌^◌, ap, subst, slice_get, Some, ◌∙◌}
+use Rattle.std.proofs.Common.{◌≡◌, ◌<◌, ◌^◌, subst, Some, ◌∙◌}
 use Rattle.sc_count.specs.declared.counts.Counts.{Counts}
 use Rattle.sc_coarse.proofs.make.gates_have_range.Goals as goal
 

@@ -1,4 +1,4 @@
-use Rattle.std.proofs.Common.{◌≡◌, ◌≤◌, ◌+◌, List, length, drop, map, sym, ap, ◌∙◌, arith}
+use Rattle.std.proofs.Common.{◌≡◌, ◌≤◌, ◌+◌, length, drop, map, sym, ◌∙◌, arith}
 use Rattle.std.proofs.lemmas.List.{take_all, length-map}
 use Rattle.sc_deck.specs.Modules.{key_of}
 use Rattle.sc_hier.proofs.GatherLemmas.{gathers_then, gathers_as, gathers_prefix_as, prefix_before, prefix_after, prefix_all}

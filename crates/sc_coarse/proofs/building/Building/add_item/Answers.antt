@@ -1,7 +1,7 @@
-use Rattle.std.proofs.Common.{List, ◌∷◌, ◌⊎◌, subst, sym, refl}
+use Rattle.std.proofs.Common.{◌∷◌, subst}
 use Rattle.sc_deck.specs.declared.item.Item.{Item}
-use Rattle.sc_coarse.specs.Building.{IsSingle, IsBuilt}
-use Rattle.sc_coarse.proofs.Built.{built_fresh, built_gate, any_single, OnOk-map}
+use Rattle.sc_coarse.specs.Building.{IsBuilt}
+use Rattle.sc_coarse.proofs.Built.{built_fresh, any_single, OnOk-map}
 use Rattle.sc_coarse.proofs.building.Building.add_item.Goals as goal
 
 pub returns-in-Fresh : goal.returns-in-Fresh

@@ -1,4 +1,3 @@
-use Rattle.std.proofs.Common.{◌≡◌}
 use Rattle.sc_coarse.proofs.Built.{built_single}
 use Rattle.sc_coarse.proofs.building.Building.add_single.Goals as goal
 
