@@ -1,8 +1,7 @@
 //! The blocks of one body.
-ghost use Rattle.std.specs.Prelude.{◌≡◌, ◌≤◌, ◌<◌, ◌+◌, ◌∷◌, ◌++◌, [], ℕ, List as Values, All, length, map, slice_index, IfOk, OnOk};
+ghost use Rattle.std.specs.Prelude.{◌≡◌, ◌≤◌, ◌<◌, ◌+◌, ◌∷◌, ◌++◌, [], List as Values, All, length, map, slice_index, IfOk, OnOk};
 ghost use Rattle.sc_deck.specs.declared.item.Item.{Item as ItemValue};
-ghost use Rattle.sc_sched.specs.Legal.{Region as Positions};
-ghost use Rattle.sc_coarse.specs.CoarseRule.{Part, parts_of, item_step, IsCoarseRule, AreBlocks};
+ghost use Rattle.sc_coarse.specs.CoarseRule.{Part, item_step, IsCoarseRule, AreBlocks};
 ghost use Rattle.sc_coarse.specs.Building.{IsSingle, stretch_part, IsBuilt};
 
 use crate::Block;

@@ -1,10 +1,10 @@
 //! The coarse schedules of the instances of a deck.
-ghost use Rattle.std.specs.Prelude.{◌≡◌, ◌++◌, ◌∷◌, [], slice_get, OnOk};
+ghost use Rattle.std.specs.Prelude.{◌≡◌, slice_get};
 ghost use Rattle.std.specs.Option.{option_map, option_copied};
 ghost use Rattle.sc_coarse.specs.Instances.{length_of, blocks_of};
 
 use crate::Block;
-use sc_base::{List, Memory};
+use sc_base::List;
 use std::marker::Model;
 
 /// The coarse schedule of one instance, and how many steps it stands for.

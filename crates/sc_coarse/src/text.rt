@@ -1,5 +1,5 @@
 //! Coarse texts.
-ghost use Rattle.std.specs.Prelude.{◌≡◌, ◌<◌, ◌∷◌, ◌++◌, false, length, codes, decimal, flat_map, map, Some, slice_get, OnOk};
+ghost use Rattle.std.specs.Prelude.{◌≡◌, ◌<◌, ◌∷◌, false, length, decimal, flat_map, map, Some, slice_get, OnOk};
 ghost use Rattle.sc_base.specs.Causes.{HasCause};
 ghost use Rattle.sc_base.specs.Output.{Wrote, WrotePrefix};
 ghost use Rattle.sc_gate.specs.Lines.{number_line};
