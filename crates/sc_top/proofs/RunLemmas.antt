@@ -70,7 +70,7 @@ carried_found : {F O : Type 0} {held : F → List ℕ → Option (List ℕ)} {te
     (λ texts text. OfRequest (λ j. Leaves texts j text) found) shelf_old shelf_new old new r
 carried_found {held = held} {tells_held = tells_held} {shelf_faults = shelf_faults} {tells = tells} {bytes = bytes} {is_ended = is_ended} {faults = faults} {shelf_old = shelf_old} {shelf_new = shelf_new} {old = old} {new = new} all job r found is c =
     subst (λ (f : Option Request). Carried held tells_held shelf_faults tells bytes is_ended faults (f ≡ None) (λ texts answer. OfRequest (λ j. Says texts all j answer) f) (OfRequest (IsLate all) f)
-      (λ texts text. OfRequest (λ j. Leaves texts j text) f) shelf_old shelf_new old new r) is (carried_any (Some job ≡ None) r c)
+    (λ texts text. OfRequest (λ j. Leaves texts j text) f) shelf_old shelf_new old new r) is (carried_any (Some job ≡ None) r c)
 
 -- the words are carried out where their request is
 pub carried_words : {F O : Type 0} {held : F → List ℕ → Option (List ℕ)} {tells_held : F → Bool} {shelf_faults : F → ℕ} {tells : O → Bool} {bytes : O → List ℕ} {is_ended : O → Bool} {faults : O → ℕ} {shelf_old shelf_new : F} {old new : O} (all : List Watcher) (job : Request) (r : Result Ending Fault) (words : List (List ℕ)) → request words ≡ Some job →

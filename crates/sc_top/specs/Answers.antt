@@ -29,7 +29,6 @@ use Rattle.sc_top.specs.declared.request.Request.{Request}
 use Rattle.sc_top.specs.declared.request.Request.TheVariants.{Hier, Flat, Expand, Check}
 use Rattle.sc_top.specs.declared.status.Ending.{Ending}
 use Rattle.sc_top.specs.declared.status.Ending.TheVariants as ending
-use Rattle.sc_top.specs.declared.watch.Asked.{Asked}
 
 -- ---- the words
 
