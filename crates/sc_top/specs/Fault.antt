@@ -9,6 +9,8 @@ use Rattle.sc_count.specs.declared.tally.TallyFault.{TallyFault}
 use Rattle.sc_count.specs.declared.tally.TallyFault.TheVariants as counting
 use Rattle.sc_flat.specs.declared.preparing.PrepFault.{PrepFault}
 use Rattle.sc_flat.specs.declared.preparing.PrepFault.TheVariants as sizing
+use Rattle.sc_meaning.specs.declared.fault.ElabFault.{ElabFault}
+use Rattle.sc_meaning.specs.declared.fault.ElabFault.TheVariants as running
 use Rattle.sc_read.specs.declared.flat.FlatFault.{FlatFault}
 use Rattle.sc_read.specs.declared.flat.FlatFault.TheVariants as listing
 use Rattle.sc_read.specs.declared.hier.HierFault.{HierFault}
@@ -42,6 +44,9 @@ placed name place = record { reason = name; at = at.InSource place }
 abbrev pub at_line : Reason → ℕ → Refusal
 at_line name line = record { reason = name; at = at.Line line }
 
+abbrev pub at_gate : Reason → ℕ → Refusal
+at_gate name position = record { reason = name; at = at.Gate position }
+
 -- a source whose tokens have this fault is refused so
 abbrev pub token_refusal : LexFault → Option Refusal
 token_refusal (lexing.BadByte place) = Some (placed reason.BadByte place)
@@ -67,6 +72,20 @@ type_refusal (typing.MeasuredUse place) = Some (placed reason.MeasuredUse place)
 type_refusal (typing.BadWidth place) = Some (placed reason.BadWidth place)
 type_refusal typing.NoMain = Some (plain reason.NoMain)
 type_refusal typing.Memory = None
+
+-- a source whose run is refused for this reason
+abbrev pub elab_refusal : ElabFault → Option Refusal
+elab_refusal (running.Overflow place) = Some (placed reason.Overflow place)
+elab_refusal (running.DivZero place) = Some (placed reason.DivZero place)
+elab_refusal (running.OutOfRange place) = Some (placed reason.OutOfRange place)
+elab_refusal (running.BadSize place) = Some (placed reason.BadSize place)
+elab_refusal (running.BadLength place) = Some (placed reason.BadLength place)
+elab_refusal (running.Repeated place) = Some (placed reason.Repeated place)
+elab_refusal (running.TooWide place) = Some (placed reason.TooWide place)
+elab_refusal (running.TooLong place) = Some (placed reason.TooLong place)
+elab_refusal running.TooDeep = Some (plain reason.TooDeep)
+elab_refusal running.TooManyInstances = Some (plain reason.TooManyInstances)
+elab_refusal running.Memory = None
 
 -- a flat text that is not read for this reason
 abbrev pub flat_refusal : FlatFault → Option Refusal
@@ -101,7 +120,7 @@ size_refusal sizing.Memory = None
 
 -- ---- the status
 
--- what a reason weighs: a limit is passed, or the text is refused
+-- what a reason weighs: a limit is passed, or the words do not fit the text, or the text is refused
 abbrev pub weight_of : Reason → Weight
 weight_of reason.SourceTooLarge = weight.Limit
 weight_of reason.TooManyTokens = weight.Limit
@@ -114,10 +133,12 @@ weight_of reason.CountTooLarge = weight.Limit
 weight_of reason.TooManyWires = weight.Limit
 weight_of reason.TooManyGates = weight.Limit
 weight_of reason.SchedTooLarge = weight.Limit
+weight_of reason.Narrow = weight.Usage
 weight_of _ = weight.Refused
 
 abbrev pub weight_status : Weight → Status
 weight_status weight.Refused = status.Refused
+weight_status weight.Usage = status.Usage
 weight_status weight.Limit = status.Limit
 
 abbrev pub status_of : Fault → Status
@@ -145,6 +166,12 @@ reason_name reason.WrongCount = codes "WrongCount"
 reason_name reason.MeasuredUse = codes "MeasuredUse"
 reason_name reason.BadWidth = codes "BadWidth"
 reason_name reason.NoMain = codes "NoMain"
+reason_name reason.Overflow = codes "Overflow"
+reason_name reason.DivZero = codes "DivZero"
+reason_name reason.OutOfRange = codes "OutOfRange"
+reason_name reason.BadSize = codes "BadSize"
+reason_name reason.BadLength = codes "BadLength"
+reason_name reason.Repeated = codes "Repeated"
 reason_name reason.Unbuilt = codes "Unbuilt"
 reason_name reason.BadQasm = codes "BadQasm"
 reason_name reason.BadSchedule = codes "BadSchedule"
@@ -156,22 +183,32 @@ reason_name reason.CountTooLarge = codes "CountTooLarge"
 reason_name reason.TooManyWires = codes "TooManyWires"
 reason_name reason.TooManyGates = codes "TooManyGates"
 reason_name reason.SchedTooLarge = codes "SchedTooLarge"
+reason_name reason.Narrow = codes "Narrow"
 
 -- the line, a colon, the column, a colon and a space
 abbrev pub place_text : Place → List ℕ
 place_text place = decimal place.line ++ codes ":" ++ decimal place.column ++ codes ": "
 
+-- where a refusal stands in a text, before its name
 abbrev pub at_text : At → List ℕ
 at_text at.Nowhere = []
 at_text (at.InSource place) = place_text place
 at_text (at.Line line) = codes "line " ++ decimal line ++ codes ": "
+at_text (at.Gate position) = []
+
+-- where it stands in a list, behind its name
+abbrev pub behind_text : At → List ℕ
+behind_text at.Nowhere = []
+behind_text (at.InSource place) = []
+behind_text (at.Line line) = []
+behind_text (at.Gate position) = codes " " ++ decimal position
 
 abbrev pub fault_text : Fault → List ℕ
 fault_text fault.Usage = codes "Usage"
 fault_text fault.ReadFault = codes "ReadFault"
 fault_text fault.WriteFault = codes "WriteFault"
 fault_text fault.Memory = codes "Memory"
-fault_text (fault.Refused refusal) = at_text refusal.at ++ reason_name refusal.reason
+fault_text (fault.Refused refusal) = at_text refusal.at ++ reason_name refusal.reason ++ behind_text refusal.at
 
 -- `scaff: `, where the fault stands, and its name, on a line
 abbrev pub fault_line : Fault → List ℕ

@@ -1,12 +1,13 @@
 //! Why a request ends with a fault.
 ghost use Rattle.std.specs.Prelude.{◌≡◌, ◌≤◌, ◌++◌, length, ◌+◌};
-ghost use Rattle.sc_top.specs.Fault.{status_of, fault_line, fault_text, reason_name, place_text, at_text, weight_of, weight_status, token_refusal, grammar_refusal, type_refusal, flat_refusal, plan_refusal, hier_refusal, count_refusal, size_refusal};
+ghost use Rattle.sc_top.specs.Fault.{status_of, fault_line, fault_text, reason_name, place_text, at_text, behind_text, weight_of, weight_status, token_refusal, grammar_refusal, type_refusal, elab_refusal, flat_refusal, plan_refusal, hier_refusal, count_refusal, size_refusal};
 ghost use Rattle.sc_top.specs.Stages.{fault_of_refusal};
 
 use crate::status::Status;
 use sc_base::{LineBuffer, Place};
 use sc_check::SchedReadFault;
 use sc_count::TallyFault;
+use sc_elab::ElabFault;
 use sc_flat::PrepFault;
 use sc_parse::ParseFault;
 use sc_read::{FlatFault, HierFault};
@@ -36,6 +37,8 @@ pub enum At {
     Nowhere,
     InSource(Place),
     Line(u32),
+    /// The position of a gate in its list, from 0.
+    Gate(u32),
 }
 
 #[derive(Clone, Copy, Debug, PartialEq, Eq)]
@@ -55,6 +58,12 @@ pub enum Reason {
     MeasuredUse,
     BadWidth,
     NoMain,
+    Overflow,
+    DivZero,
+    OutOfRange,
+    BadSize,
+    BadLength,
+    Repeated,
     Unbuilt,
     BadQasm,
     BadSchedule,
@@ -66,12 +75,14 @@ pub enum Reason {
     TooManyWires,
     TooManyGates,
     SchedTooLarge,
+    Narrow,
 }
 
 /// The status that a reason leads to.
 #[derive(Clone, Copy, Debug, PartialEq, Eq)]
 pub(crate) enum Weight {
     Refused,
+    Usage,
     Limit,
 }
 
@@ -100,6 +111,15 @@ fn at_line(reason: Reason, line: u32) -> Fault
     Fault::Refused(Refusal {
         reason,
         at: At::Line(line),
+    })
+}
+
+pub(crate) fn at_gate(reason: Reason, position: u32) -> Fault
+    ensures { result ≡ Fault.Refused (record { reason = reason; at = At.Gate position }) }
+{
+    Fault::Refused(Refusal {
+        reason,
+        at: At::Gate(position),
     })
 }
 
@@ -141,6 +161,25 @@ pub(crate) fn typing_fault(fault: TypeFault) -> Fault
         TypeFault::BadWidth(place) => at_place(Reason::BadWidth, place),
         TypeFault::NoMain => plainly(Reason::NoMain),
         TypeFault::Memory => Fault::Memory,
+    }
+}
+
+/// The fault of a request over a source whose run is refused for this reason.
+pub(crate) fn elab_fault(fault: ElabFault) -> Fault
+    ensures { result ≡ fault_of_refusal (elab_refusal fault) }
+{
+    match fault {
+        ElabFault::Overflow(place) => at_place(Reason::Overflow, place),
+        ElabFault::DivZero(place) => at_place(Reason::DivZero, place),
+        ElabFault::OutOfRange(place) => at_place(Reason::OutOfRange, place),
+        ElabFault::BadSize(place) => at_place(Reason::BadSize, place),
+        ElabFault::BadLength(place) => at_place(Reason::BadLength, place),
+        ElabFault::Repeated(place) => at_place(Reason::Repeated, place),
+        ElabFault::TooWide(place) => at_place(Reason::TooWide, place),
+        ElabFault::TooLong(place) => at_place(Reason::TooLong, place),
+        ElabFault::TooDeep => plainly(Reason::TooDeep),
+        ElabFault::TooManyInstances => plainly(Reason::TooManyInstances),
+        ElabFault::Memory => Fault::Memory,
     }
 }
 
@@ -216,6 +255,7 @@ impl Reason {
             | Reason::TooManyWires
             | Reason::TooManyGates
             | Reason::SchedTooLarge => Weight::Limit,
+            Reason::Narrow => Weight::Usage,
             _ => Weight::Refused,
         }
     }
@@ -240,6 +280,12 @@ impl Reason {
             Reason::MeasuredUse => b"MeasuredUse",
             Reason::BadWidth => b"BadWidth",
             Reason::NoMain => b"NoMain",
+            Reason::Overflow => b"Overflow",
+            Reason::DivZero => b"DivZero",
+            Reason::OutOfRange => b"OutOfRange",
+            Reason::BadSize => b"BadSize",
+            Reason::BadLength => b"BadLength",
+            Reason::Repeated => b"Repeated",
             Reason::Unbuilt => b"Unbuilt",
             Reason::BadQasm => b"BadQasm",
             Reason::BadSchedule => b"BadSchedule",
@@ -251,6 +297,7 @@ impl Reason {
             Reason::TooManyWires => b"TooManyWires",
             Reason::TooManyGates => b"TooManyGates",
             Reason::SchedTooLarge => b"SchedTooLarge",
+            Reason::Narrow => b"Narrow",
         }
     }
 }
@@ -261,6 +308,7 @@ impl Weight {
     {
         match self {
             Weight::Refused => Status::Refused,
+            Weight::Usage => Status::Usage,
             Weight::Limit => Status::Limit,
         }
     }
@@ -293,7 +341,7 @@ impl Fault {
     fn push_text(&self, line: &mut LineBuffer)
         requires { length line.old ≤ 7 }
         ensures text { line.new ≡ line.old ++ fault_text self.now }
-        ensures short { length line.new ≤ length line.old + 39 }
+        ensures short { length line.new ≤ length line.old + 50 }
     {
         match self {
             Fault::Usage => line.push(b"Usage"),
@@ -303,24 +351,40 @@ impl Fault {
             Fault::Refused(refusal) => {
                 push_at(line, refusal.at);
                 line.push(refusal.reason.name());
+                push_behind(line, refusal.at);
             }
         }
     }
 }
 
-/// Appends where a refusal stands.
+/// Appends where a refusal stands in a text.
 fn push_at(line: &mut LineBuffer, at: At)
     requires { length line.old ≤ 7 }
     ensures text { line.new ≡ line.old ++ at_text at }
     ensures short { length line.new ≤ length line.old + 23 }
 {
     match at {
-        At::Nowhere => {}
+        At::Nowhere | At::Gate(_) => {}
         At::InSource(place) => push_place(line, place),
         At::Line(number) => {
             line.push(b"line ");
             line.push_number(number);
             line.push(b": ");
+        }
+    }
+}
+
+/// Appends where a refusal stands in a list.
+fn push_behind(line: &mut LineBuffer, at: At)
+    requires { length line.old ≤ 46 }
+    ensures text { line.new ≡ line.old ++ behind_text at }
+    ensures short { length line.new ≤ length line.old + 11 }
+{
+    match at {
+        At::Nowhere | At::InSource(_) | At::Line(_) => {}
+        At::Gate(position) => {
+            line.push(b" ");
+            line.push_number(position);
         }
     }
 }

@@ -1,20 +1,18 @@
 //! The command.
 #![tactic(auto)]
 
-mod array;
-mod arrays;
-mod circuit;
 mod expand;
+mod expansion;
 mod fault;
 mod flat;
-mod form;
-mod maker;
-mod parts;
+mod hier;
 mod read;
 mod request;
 mod run_all;
+mod source;
 mod status;
 mod verdict;
+mod watch;
 
 pub use fault::{At, Fault, Reason, Refusal};
 pub use request::{Request, WordsFault, read_words};

@@ -1,13 +1,9 @@
-use Rattle.std.proofs.Common.{refl}
-use Rattle.sc_top.proofs.RunLemmas.{carried_usage}
+use Rattle.std.proofs.Common.{map}
+use Rattle.std.specs.Rc.{rc_str_bytes}
+use Rattle.sc_top.specs.Watching.{watchers}
+use Rattle.sc_top.proofs.RunLemmas.{carried_words}
 use Rattle.sc_top.proofs.run_all.serve.Goals as goal
 
-pub returns-in-Ok-clause-usage : goal.returns-in-Ok-clause-usage
-returns-in-Ok-clause-usage g c = carried_usage c.carry.result c.in-Ok.ensures.asked c.carry.ensures
-
-pub returns-in-Err-Usage-clause-usage : goal.returns-in-Err-Usage-clause-usage
-returns-in-Err-Usage-clause-usage g c = let usage = rw c.in-Err-Usage.field-0-is at c.in-Err-Usage.ensures.usage in (λ is. usage.0 refl, λ none. refl)
-
-pub returns-in-Err-Memory-clause-usage : goal.returns-in-Err-Memory-clause-usage
-returns-in-Err-Memory-clause-usage g c =
-    let usage = rw c.in-Err-Memory.field-0-is at c.in-Err-Memory.ensures.usage in (λ is. absurd (let impossible = is in cc), λ none. absurd (let impossible = usage.1 none in cc))
+pub returns-in-Ok-clause-carried : goal.returns-in-Ok-clause-carried
+returns-in-Ok-clause-carried g c =
+    carried_words (watchers (λ b. (goal.Probe-dyn g (b.vtable, b.value)).rule b.value) (λ b. (goal.Probe-dyn g (b.vtable, b.value)).state b.value) c.args.probes.items) c.in-Ok.job c.carry.result (map rc_str_bytes c.args.words.now) c.in-Ok.ensures.asked c.carry.ensures
