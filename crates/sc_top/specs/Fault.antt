@@ -42,6 +42,9 @@ placed name place = record { reason = name; at = at.InSource place }
 abbrev pub at_line : Reason → ℕ → Refusal
 at_line name line = record { reason = name; at = at.Line line }
 
+abbrev pub at_gate : Reason → ℕ → Refusal
+at_gate name position = record { reason = name; at = at.Gate position }
+
 -- a source whose tokens have this fault is refused so
 abbrev pub token_refusal : LexFault → Option Refusal
 token_refusal (lexing.BadByte place) = Some (placed reason.BadByte place)
@@ -101,7 +104,7 @@ size_refusal sizing.Memory = None
 
 -- ---- the status
 
--- what a reason weighs: a limit is passed, or the text is refused
+-- what a reason weighs: a limit is passed, or the words do not fit the text, or the text is refused
 abbrev pub weight_of : Reason → Weight
 weight_of reason.SourceTooLarge = weight.Limit
 weight_of reason.TooManyTokens = weight.Limit
@@ -114,10 +117,12 @@ weight_of reason.CountTooLarge = weight.Limit
 weight_of reason.TooManyWires = weight.Limit
 weight_of reason.TooManyGates = weight.Limit
 weight_of reason.SchedTooLarge = weight.Limit
+weight_of reason.Narrow = weight.Usage
 weight_of _ = weight.Refused
 
 abbrev pub weight_status : Weight → Status
 weight_status weight.Refused = status.Refused
+weight_status weight.Usage = status.Usage
 weight_status weight.Limit = status.Limit
 
 abbrev pub status_of : Fault → Status
@@ -156,22 +161,32 @@ reason_name reason.CountTooLarge = codes "CountTooLarge"
 reason_name reason.TooManyWires = codes "TooManyWires"
 reason_name reason.TooManyGates = codes "TooManyGates"
 reason_name reason.SchedTooLarge = codes "SchedTooLarge"
+reason_name reason.Narrow = codes "Narrow"
 
 -- the line, a colon, the column, a colon and a space
 abbrev pub place_text : Place → List ℕ
 place_text place = decimal place.line ++ codes ":" ++ decimal place.column ++ codes ": "
 
+-- where a refusal stands in a text, before its name
 abbrev pub at_text : At → List ℕ
 at_text at.Nowhere = []
 at_text (at.InSource place) = place_text place
 at_text (at.Line line) = codes "line " ++ decimal line ++ codes ": "
+at_text (at.Gate position) = []
+
+-- where it stands in a list, behind its name
+abbrev pub behind_text : At → List ℕ
+behind_text at.Nowhere = []
+behind_text (at.InSource place) = []
+behind_text (at.Line line) = []
+behind_text (at.Gate position) = codes " " ++ decimal position
 
 abbrev pub fault_text : Fault → List ℕ
 fault_text fault.Usage = codes "Usage"
 fault_text fault.ReadFault = codes "ReadFault"
 fault_text fault.WriteFault = codes "WriteFault"
 fault_text fault.Memory = codes "Memory"
-fault_text (fault.Refused refusal) = at_text refusal.at ++ reason_name refusal.reason
+fault_text (fault.Refused refusal) = at_text refusal.at ++ reason_name refusal.reason ++ behind_text refusal.at
 
 -- `scaff: `, where the fault stands, and its name, on a line
 abbrev pub fault_line : Fault → List ℕ

@@ -1,6 +1,6 @@
 //! Why a request ends with a fault.
 ghost use Rattle.std.specs.Prelude.{◌≡◌, ◌≤◌, ◌++◌, length, ◌+◌};
-ghost use Rattle.sc_top.specs.Fault.{status_of, fault_line, fault_text, reason_name, place_text, at_text, weight_of, weight_status, token_refusal, grammar_refusal, type_refusal, flat_refusal, plan_refusal, hier_refusal, count_refusal, size_refusal};
+ghost use Rattle.sc_top.specs.Fault.{status_of, fault_line, fault_text, reason_name, place_text, at_text, behind_text, weight_of, weight_status, token_refusal, grammar_refusal, type_refusal, flat_refusal, plan_refusal, hier_refusal, count_refusal, size_refusal};
 ghost use Rattle.sc_top.specs.Stages.{fault_of_refusal};
 
 use crate::status::Status;
@@ -36,6 +36,8 @@ pub enum At {
     Nowhere,
     InSource(Place),
     Line(u32),
+    /// The position of a gate in its list, from 0.
+    Gate(u32),
 }
 
 #[derive(Clone, Copy, Debug, PartialEq, Eq)]
@@ -66,12 +68,14 @@ pub enum Reason {
     TooManyWires,
     TooManyGates,
     SchedTooLarge,
+    Narrow,
 }
 
 /// The status that a reason leads to.
 #[derive(Clone, Copy, Debug, PartialEq, Eq)]
 pub(crate) enum Weight {
     Refused,
+    Usage,
     Limit,
 }
 
@@ -100,6 +104,15 @@ fn at_line(reason: Reason, line: u32) -> Fault
     Fault::Refused(Refusal {
         reason,
         at: At::Line(line),
+    })
+}
+
+pub(crate) fn at_gate(reason: Reason, position: u32) -> Fault
+    ensures { result ≡ Fault.Refused (record { reason = reason; at = At.Gate position }) }
+{
+    Fault::Refused(Refusal {
+        reason,
+        at: At::Gate(position),
     })
 }
 
@@ -216,6 +229,7 @@ impl Reason {
             | Reason::TooManyWires
             | Reason::TooManyGates
             | Reason::SchedTooLarge => Weight::Limit,
+            Reason::Narrow => Weight::Usage,
             _ => Weight::Refused,
         }
     }
@@ -251,6 +265,7 @@ impl Reason {
             Reason::TooManyWires => b"TooManyWires",
             Reason::TooManyGates => b"TooManyGates",
             Reason::SchedTooLarge => b"SchedTooLarge",
+            Reason::Narrow => b"Narrow",
         }
     }
 }
@@ -261,6 +276,7 @@ impl Weight {
     {
         match self {
             Weight::Refused => Status::Refused,
+            Weight::Usage => Status::Usage,
             Weight::Limit => Status::Limit,
         }
     }
@@ -293,7 +309,7 @@ impl Fault {
     fn push_text(&self, line: &mut LineBuffer)
         requires { length line.old ≤ 7 }
         ensures text { line.new ≡ line.old ++ fault_text self.now }
-        ensures short { length line.new ≤ length line.old + 39 }
+        ensures short { length line.new ≤ length line.old + 50 }
     {
         match self {
             Fault::Usage => line.push(b"Usage"),
@@ -303,24 +319,40 @@ impl Fault {
             Fault::Refused(refusal) => {
                 push_at(line, refusal.at);
                 line.push(refusal.reason.name());
+                push_behind(line, refusal.at);
             }
         }
     }
 }
 
-/// Appends where a refusal stands.
+/// Appends where a refusal stands in a text.
 fn push_at(line: &mut LineBuffer, at: At)
     requires { length line.old ≤ 7 }
     ensures text { line.new ≡ line.old ++ at_text at }
     ensures short { length line.new ≤ length line.old + 23 }
 {
     match at {
-        At::Nowhere => {}
+        At::Nowhere | At::Gate(_) => {}
         At::InSource(place) => push_place(line, place),
         At::Line(number) => {
             line.push(b"line ");
             line.push_number(number);
             line.push(b": ");
+        }
+    }
+}
+
+/// Appends where a refusal stands in a list.
+fn push_behind(line: &mut LineBuffer, at: At)
+    requires { length line.old ≤ 46 }
+    ensures text { line.new ≡ line.old ++ behind_text at }
+    ensures short { length line.new ≤ length line.old + 11 }
+{
+    match at {
+        At::Nowhere | At::InSource(_) | At::Line(_) => {}
+        At::Gate(position) => {
+            line.push(b" ");
+            line.push_number(position);
         }
     }
 }

@@ -11,9 +11,12 @@ mod form;
 mod maker;
 mod parts;
 mod read;
+mod report;
 mod request;
 mod run_all;
+mod scheduled;
 mod status;
+mod tallied;
 mod verdict;
 
 pub use fault::{At, Fault, Reason, Refusal};
