@@ -1,6 +1,7 @@
 mod BodyLemmas
 mod CarryLemmas
 mod CircuitLemmas
+mod DeckPaths
 mod ExpansionLemmas
 mod FewGates
 mod FirstForm
@@ -10,6 +11,7 @@ mod FirstPieces
 mod FirstTyped
 mod InOrder
 mod MakerLemmas
+pub mod ModeLemmas
 mod Nests
 pub mod OneAnswer
 pub mod OneCircuit

@@ -1,0 +1,1 @@
+use Rattle.sc_top.proofs.report.write_kinds.Goals as goal
