@@ -11,7 +11,7 @@ use Rattle.sc_gate.specs.declared.gate.Wire.{Wire}
 use Rattle.sc_gate.proofs.ChainLaws.{critical_chain}
 use Rattle.sc_gate.specs.Chains.{Timed, timed, critical_of, total_weight, IsCritical}
 use Rattle.sc_gate.specs.Gates.{class_of}
-use Rattle.sc_gate.specs.Numbers.{both}
+use Rattle.sc_gate.specs.Numbers.{both, no_wires}
 use Rattle.sc_deck.specs.declared.item.Item.{Item}
 use Rattle.sc_deck.specs.declared.item.Item.TheVariants as item
 use Rattle.sc_deck.specs.Bodies.{Contents}
@@ -26,13 +26,13 @@ use Rattle.sc_deck.proofs.PlaceLaws.{Sized-params}
 use Rattle.sc_deck.proofs.PutLaws.{expansion-is}
 use Rattle.sc_deck.proofs.SequenceLaws.{unfold_on-before}
 use Rattle.sc_deck.proofs.TextLaws.{IsDeck-front}
-use Rattle.sc_count.proofs.DeckTallies.{found}
 use Rattle.sc_count.specs.declared.counts.Counts.{Counts}
 use Rattle.sc_count.specs.declared.tally.Tally.{Tally}
 use Rattle.sc_count.specs.Counting.{counts_in}
 use Rattle.sc_count.specs.Tallies.{StandsFor as Tallies}
 use Rattle.sc_path.specs.declared.fault.PathFault.{PathFault}
 use Rattle.sc_path.specs.declared.fault.PathFault.TheVariants as weighing
+use Rattle.sc_path.specs.declared.paths.Paths.{Paths}
 use Rattle.sc_path.specs.declared.table.Table.{Table}
 use Rattle.sc_path.specs.Places.{row_number}
 use Rattle.sc_path.specs.Tables.{CallKnown, ItemKnown, CallsKnown, Extends, StandsFor, WhyAdded, timed_gates, critical_at}
@@ -51,7 +51,7 @@ expansion_front modules (n ∷ more) i m at =
     let still : slice_get (modules ++ n ∷ []) i ≡ Some m = slice_get_left modules (n ∷ []) i below ∙ at in
     ap (λ (ms : List Module). expansion ms i) (sym (append_assoc modules (n ∷ []) more))
     ∙ expansion_front (modules ++ n ∷ []) more i m still
-    ∙ (expansion-is (modules ++ n ∷ []) i m still ∙ ap (λ u. u (numbered (param_classes m.key) _) (params_of m.key)) (unfold_on-before modules n i below) ∙ sym (expansion-is modules i m at))
+    ∙ (expansion-is (modules ++ n ∷ []) i m still ∙ ap (λ u. u (numbered (param_classes m.key) no_wires) (params_of m.key)) (unfold_on-before modules n i below) ∙ sym (expansion-is modules i m at))
 
 -- ---- the calls of a body are known where the tables stand for the modules before it
 
@@ -93,15 +93,21 @@ calls_known tables times modules stands (item.Calls callee wires turns ∷ items
 
 -- ---- one body after another
 
+-- the module of a body that is there
+found : (modules : List Module) (i : ℕ) (b : Contents) → Some b ≡ option_map body_of (slice_get modules i) → (m : Module) × (slice_get modules i ≡ Some m) × (b ≡ body_of m)
+found [] i b at = absurd (cc)
+found (m ∷ modules) zero b at = (m, refl, cc)
+found (m ∷ modules) (suc i) b at = found modules i b at
+
 -- the tables of the modules before i
-pub record Behind (times : List ℕ) (modules : List Module) (i : ℕ) (tables : List Table) (own : List ℕ) : Type 0 where
-  pub times_are : own ≡ times
-  pub stands : StandsFor tables times (take i modules)
+pub record Behind (times : List ℕ) (modules : List Module) (i : ℕ) (paths : Paths) : Type 0 where
+  pub times_are : paths.times ≡ times
+  pub stands : StandsFor paths.tables times (take i modules)
 
-pub starts : (times : List ℕ) (modules : List Module) (tables : List Table) (own : List ℕ) → own ≡ times → StandsFor tables own [] → Behind times modules 0 tables own
-starts times modules tables own same stands = record { times_are = same; stands = subst (λ (t : List ℕ). StandsFor tables t []) same stands }
+pub starts : (times : List ℕ) (modules : List Module) (paths : Paths) → paths.times ≡ times → StandsFor paths.tables paths.times [] → Behind times modules 0 paths
+starts times modules paths same stands = record { times_are = same; stands = subst (λ (t : List ℕ). StandsFor paths.tables t []) same stands }
 
-module _ (times : List ℕ) (modules : List Module) (deck : IsDeck modules) (i : ℕ) (tables : List Table) (own : List ℕ) (behind : Behind times modules i tables own) (b : Contents) (at : Some b ≡ option_map body_of (slice_get modules i)) where
+module _ (times : List ℕ) (modules : List Module) (deck : IsDeck modules) (i : ℕ) (paths : Paths) (behind : Behind times modules i paths) (b : Contents) (at : Some b ≡ option_map body_of (slice_get modules i)) where
   m : Module
   m = (found modules i b at).0
 
@@ -129,18 +135,18 @@ module _ (times : List ℕ) (modules : List Module) (deck : IsDeck modules) (i :
     deck = subst IsDeck next (IsDeck-front (take (i + 1) modules) (drop (i + 1) modules) (subst IsDeck (sym (take-append-drop (i + 1) modules)) deck));
   }
 
-  own_stands : StandsFor tables own (take i modules)
-  own_stands = subst (λ (t : List ℕ). StandsFor tables t (take i modules)) (sym behind.times_are) behind.stands
+  own_stands : StandsFor paths.tables paths.times (take i modules)
+  own_stands = subst (λ (t : List ℕ). StandsFor paths.tables t (take i modules)) (sym behind.times_are) behind.stands
 
-  pub known : CallsKnown tables b.items
-  known = subst (λ (c : Contents). CallsKnown tables c.items) (sym is_body) (calls_known tables times (take i modules) behind.stands m.items (CallEarlier-at modules deck.calls i m m-at))
+  pub known : CallsKnown paths.tables b.items
+  known = subst (λ (c : Contents). CallsKnown paths.tables c.items) (sym is_body) (calls_known paths.tables times (take i modules) behind.stands m.items (CallEarlier-at modules deck.calls i m m-at))
 
   -- ONE BODY MORE
-  pub goes_on : (after : List Table) (later : List ℕ) → later ≡ own →
-      ((ms : List Module) (key : _) → Extends ms key b → StandsFor tables own ms → StandsFor after own (ms ++ record { key = key; items = b.items } ∷ [])) → Behind times modules (i + 1) after later
-  goes_on after later kept made = record {
+  pub goes_on : (after : Paths) → after.times ≡ paths.times →
+      ((ms : List Module) (key : _) → Extends ms key b → StandsFor paths.tables paths.times ms → StandsFor after.tables paths.times (ms ++ record { key = key; items = b.items } ∷ [])) → Behind times modules (i + 1) after
+  goes_on after kept made = record {
     times_are = kept ∙ behind.times_are;
-    stands = subst (λ (ms : List Module). StandsFor after times ms) (sym next) (subst (λ (t : List ℕ). StandsFor after t (take i modules ++ record { key = m.key; items = b.items } ∷ [])) behind.times_are (made (take i modules) m.key extends own_stands));
+    stands = subst (λ (ms : List Module). StandsFor after.tables times ms) (sym next) (subst (λ (t : List ℕ). StandsFor after.tables t (take i modules ++ record { key = m.key; items = b.items } ∷ [])) behind.times_are (made (take i modules) m.key extends own_stands));
   }
 
   long : length (take i modules) ≡ i
@@ -153,26 +159,26 @@ module _ (times : List ℕ) (modules : List Module) (deck : IsDeck modules) (i :
       subst (λ (ms : List Module). slice_get ms i ≡ Some m) next (sym (slice_get_left (take (i + 1) modules) (drop (i + 1) modules) i n) ∙ ap (λ (ms : List Module). slice_get ms i) (take-append-drop (i + 1) modules) ∙ m-at)
 
   -- its gates are those in the whole deck
-  gates_here : timed_gates own (take i modules ++ record { key = m.key; items = b.items } ∷ []) (length (take i modules)) ≡ timed_gates times modules i
+  gates_here : timed_gates paths.times (take i modules ++ record { key = m.key; items = b.items } ∷ []) (length (take i modules)) ≡ timed_gates times modules i
   gates_here =
       let whole : (take i modules ++ record { key = m.key; items = b.items } ∷ []) ++ drop (i + 1) modules ≡ modules =
       ap (λ (ms : List Module). ms ++ drop (i + 1) modules) (sym next) ∙ take-append-drop (i + 1) modules in
-      ap (λ (n : ℕ). timed_gates own (take i modules ++ record { key = m.key; items = b.items } ∷ []) n) long
+      ap (λ (n : ℕ). timed_gates paths.times (take i modules ++ record { key = m.key; items = b.items } ∷ []) n) long
       ∙ ap (λ (t : List ℕ). timed_gates t (take i modules ++ record { key = m.key; items = b.items } ∷ []) i) behind.times_are
       ∙ ap (λ (es : List Event). map (timed times) (gates_in es)) (sym (expansion_front (take i modules ++ record { key = m.key; items = b.items } ∷ []) (drop (i + 1) modules) i m here) ∙ ap (λ (ms : List Module). expansion ms i) whole)
 
   -- NO CHAIN IS TOO HEAVY where all the gates of a whole deck are not
-  pub light : IsWhole modules → total_weight (timed_gates times modules (length modules - 1)) < 2 ^ 128 → (fault : PathFault) → WhyAdded tables own b fault → fault ≡ weighing.Memory
+  pub light : IsWhole modules → total_weight (timed_gates times modules (length modules - 1)) < 2 ^ 128 → (fault : PathFault) → WhyAdded paths.tables paths.times b fault → fault ≡ weighing.Memory
   light whole fits weighing.Memory why = refl
   light whole fits weighing.CountTooLarge why =
-      let heavy : 2 ^ 128 ≤ critical_of (timed_gates own (take i modules ++ record { key = m.key; items = b.items } ∷ []) (length (take i modules))) = why (take i modules) m.key extends own_stands in
+      let heavy : 2 ^ 128 ≤ critical_of (timed_gates paths.times (take i modules ++ record { key = m.key; items = b.items } ∷ []) (length (take i modules))) = why (take i modules) m.key extends own_stands in
       let few = all_fit times modules i deck whole below fits in
-      let is : critical_of (timed_gates own (take i modules ++ record { key = m.key; items = b.items } ∷ []) (length (take i modules))) ≡ critical_of (timed_gates times modules i) = ap critical_of gates_here in
+      let is : critical_of (timed_gates paths.times (take i modules ++ record { key = m.key; items = b.items } ∷ []) (length (take i modules))) ≡ critical_of (timed_gates times modules i) = ap critical_of gates_here in
       absurd (omega arith)
 
 -- at the end
-pub all_stand : (times : List ℕ) (modules : List Module) (i : ℕ) (tables : List Table) (own : List ℕ) → length modules ≡ i → Behind times modules i tables own → StandsFor tables times modules
-all_stand times modules i tables own end behind = subst (λ (ms : List Module). StandsFor tables times ms) (ap (λ (n : ℕ). take n modules) (sym end) ∙ take-length modules) behind.stands
+pub all_stand : (times : List ℕ) (modules : List Module) (i : ℕ) (paths : Paths) → length modules ≡ i → Behind times modules i paths → StandsFor paths.tables times modules
+all_stand times modules i paths end behind = subst (λ (ms : List Module). StandsFor paths.tables times ms) (ap (λ (n : ℕ). take n modules) (sym end) ∙ take-length modules) behind.stands
 
 -- ---- the last module
 

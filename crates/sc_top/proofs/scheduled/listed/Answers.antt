@@ -1,4 +1,6 @@
-use Rattle.std.proofs.Common.{◌≡◌, ap, Result, Ok, Err}
+use Rattle.std.proofs.Common.{◌≡◌, ◌≤◌, ap, sym, subst, List, length, Result, Ok, Err}
+use Rattle.sc_base.specs.Limits.{most_gates}
+use Rattle.sc_gate.specs.declared.gate.Gate.{Gate}
 use Rattle.std.proofs.lemmas.Result.{err_from_is_err_and}
 use Rattle.sc_flat.specs.Shown.{Prepared}
 use Rattle.sc_flat.specs.declared.preparing.PrepFault.{PrepFault}
@@ -21,3 +23,14 @@ returns-in_err-tally-clause-gates c = let p = err_from_is_err_and c.from_residua
 pub returns-in-Err-clause-gates : goal.returns-in-Err-clause-gates
 returns-in-Err-clause-gates c =
     rw c.listing_fault.ensures (listing_why c.args.times.now c.args.deck.now _ c.in_ok-tally.ensures.within (λ is. c.in-Err.ensures.too_many_wires.0 (ap unprepared is)) (λ is. c.in-Err.ensures.too_many_gates.0 (ap unprepared is)))
+
+pub returns-in-Ok-list-clause-gates : goal.returns-in-Ok-list-clause-gates
+returns-in-Ok-list-clause-gates c =
+    found_goes tt _ c.in_ok-tally.ensures.within
+    (found_goes tt _ (λ many. not_both (c.in-Ok.ensures.too_many_wires.1 many))
+    (record { value = (few_enough c.args.deck.now (λ many. not_both (c.in-Ok.ensures.too_many_wires.1 many)) (λ many. not_both (c.in-Ok.ensures.too_many_gates.1 many)), c.in-Ok-list.ensures.gates); fault = tt }))
+
+pub returns-in-Ok-list-clause-few : goal.returns-in-Ok-list-clause-few
+returns-in-Ok-list-clause-few c =
+    subst (λ (gates : List Gate). length gates ≤ most_gates) (sym c.in-Ok-list.ensures.gates)
+    (few_enough c.args.deck.now (λ many. not_both (c.in-Ok.ensures.too_many_wires.1 many)) (λ many. not_both (c.in-Ok.ensures.too_many_gates.1 many)))

@@ -6,8 +6,8 @@ use Rattle.sc_top.proofs.tallied.summary_of.Goals as goal
 pub overflow_sub-last : goal.overflow_sub-last
 overflow_sub-last c = omega (arith, some_module c.args.deck.now c.requires.whole, c.len-last.ensures.count)
 
-pub bounds-as_slice : goal.bounds-as_slice
-bounds-as_slice c = omega (arith, some_module c.args.deck.now c.requires.whole, c.len-last.ensures.count, c.requires.tally.len, ap length c.as_slice.ensures)
+pub bounds-as_slice-last : goal.bounds-as_slice-last
+bounds-as_slice-last c = omega (arith, some_module c.args.deck.now c.requires.whole, c.len-last.ensures.count, c.requires.tally.len, ap length c.as_slice.ensures)
 
 pub returns : goal.returns
 returns c =
