@@ -142,9 +142,9 @@ one_first : (d : ℕ) (gates : List Gate) (x y : ℕ) → IsFirstWider d gates x
 one_first d gates x y a b = elim (cases_lt x y) [
   | inl before ↦ absurd (first_before d gates x y a b before)
   | inr le ↦ elim (cases_lt y x) [
-      | inl behind ↦ absurd (first_before d gates y x b a behind)
-      | inr ge ↦ omega arith
-    ]
+    | inl behind ↦ absurd (first_before d gates y x b a behind)
+    | inr ge ↦ omega arith
+  ]
 ]
 
 not_wider : (d : ℕ) (gates : List Gate) (x : ℕ) → NoneIsWider d gates → IsFirstWider d gates x → ⊥
@@ -192,8 +192,7 @@ has_summary times modules within =
 pub has_plan : (k d : ℕ) (lpfs : Bool) (times : List ℕ) (modules : List Module) → 1 ≤ k → IsSchedulable d times modules → (plan : Plan) × IsScheduled k d lpfs times modules (Ok plan)
 has_plan k d lpfs times modules some fits =
     let gates : List Gate = gates_in (whole modules) in
-    let steps = schedule_exists (order_by lpfs) times (gates_in (whole modules)) k d (lawful lpfs) some fits.room in
-    (
+    let steps = schedule_exists (order_by lpfs) times (gates_in (whole modules)) k d (lawful lpfs) some fits.room in (
       record { k = k; d = d; gates = length gates; steps = steps.0 },
       goes (gates_in (whole modules)) _ (goes tt _ fits.counts (goes tt _ fits.wires (fits.gates, refl))) (goes tt _ fits.room (record { regions = refl; width = refl; gates_are = refl; steps = steps.1 })),
     )

@@ -10,7 +10,7 @@ pub loop-i-init : goal.loop-i-init
 loop-i-init c = starts c.args.times.now c.args.deck.now c.new-paths.result c.new-paths.ensures.times c.new-paths.ensures.stands
 
 pub add-requires : goal.add-requires
-add-requires c = known c.args.times.now c.args.deck.now c.len-i-end.ensures.sound c.loop-i.i c.loop-i.paths c.loop-i.invariant c.in-Some.body.now c.in-Some.ensures
+add-requires c = record { known = known c.args.times.now c.args.deck.now c.len-i-end.ensures.sound c.loop-i.i c.loop-i.paths c.loop-i.invariant c.in-Some.body.now c.in-Some.ensures }
 
 pub returns-in_err-add-clause-memory : goal.returns-in_err-add-clause-memory
 returns-in_err-add-clause-memory c =
