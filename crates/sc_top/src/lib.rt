@@ -1,23 +1,23 @@
 //! The command.
 #![tactic(auto)]
 
-mod array;
-mod arrays;
-mod circuit;
+mod count;
 mod expand;
+mod expansion;
 mod fault;
 mod flat;
-mod form;
-mod maker;
-mod parts;
+mod hier;
 mod read;
 mod report;
 mod request;
 mod run_all;
+mod schedule;
 mod scheduled;
+mod source;
 mod status;
 mod tallied;
 mod verdict;
+mod watch;
 
 pub use fault::{At, Fault, Reason, Refusal};
 pub use request::{Request, WordsFault, read_words};
