@@ -65,6 +65,11 @@ request (mode ∷ file ∷ []) = file_request mode file
 request (mode ∷ list ∷ schedule ∷ []) = check_request mode list schedule
 request words = None
 
+-- the numbers of a request are at least 1 where they have to be
+abbrev pub InRange : Request → Type 0
+InRange (Schedule file choice k d lpfs times) = (1 ≤ k) × (1 ≤ d)
+InRange _ = Unit {0}
+
 -- ---- the answer of a request
 
 -- the text under the name, of at most so many bytes; a name under which no text is held has no answer

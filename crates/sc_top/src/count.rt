@@ -11,7 +11,7 @@ use crate::status::Ending;
 use crate::tallied::{durations, summarized};
 use sc_base::{Shelf, Sink};
 use sc_gate::Times;
-use sc_meaning::Choice;
+use sc_elab::Choice;
 use std::alloc::Global;
 
 /// Writes the report of the source under a name, by the durations of the request, and ends the sink.

@@ -11,7 +11,7 @@ use crate::status::Ending;
 use crate::tallied::durations;
 use sc_base::{Shelf, Sink};
 use sc_gate::Times;
-use sc_meaning::Choice;
+use sc_elab::Choice;
 use sc_sched::Plan;
 use std::alloc::Global;
 
