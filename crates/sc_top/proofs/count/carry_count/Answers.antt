@@ -13,5 +13,5 @@ returns-in_err-summary g c =
 pub returns-in-Ok : goal.returns-in-Ok
 returns-in-Ok g c = carried_done (λ (s : Summary). done (report_text (is_some c.args.times) s)) c.in_ok-summary.ensures (rw c.is_some-weighs.ensures at c.in-Ok.ensures)
 
-pub returns : goal.returns
-returns g c = carried_unwritten (λ (s : Summary). done (report_text (is_some c.args.times) s)) c.in_ok-summary.ensures (rw c.is_some-weighs.ensures at c.in-Err.ensures)
+pub returns-in-Err : goal.returns-in-Err
+returns-in-Err g c = carried_unwritten (λ (s : Summary). done (report_text (is_some c.args.times) s)) c.in_ok-summary.ensures (rw c.is_some-weighs.ensures at c.in-Err.ensures)
