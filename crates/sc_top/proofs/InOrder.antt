@@ -1,12 +1,12 @@
 -- Texts that are in order have an output, and verdicts are exact.
 use Rattle.std.proofs.Common.{ℕ, ◌<◌, List, length, Option, None, Some, Ok, refl, subst}
-use Rattle.std.specs.Prelude.{All}
+use Rattle.std.specs.Prelude.{All, is_some}
 use Rattle.sc_check.proofs.Breaches.{legal_from, legal_to}
 use Rattle.sc_check.specs.Finding.{finding}
 use Rattle.sc_deck.specs.Events.{flat}
 use Rattle.sc_deck.specs.Hierarchical.{hier}
 use Rattle.sc_gate.specs.declared.gate.Gate.{Gate}
-use Rattle.sc_sched.specs.Text.{IsTextOf}
+use Rattle.sc_sched.specs.Text.{IsTextOf, schedule_text}
 use Rattle.sc_sched.specs.declared.plan.Plan.{Plan}
 use Rattle.sc_top.specs.Answers.{Says, OfRequest, AreInOrder, HaveOutputs, request, done, watched, asked_in}
 use Rattle.sc_top.specs.Endings.{Output}
@@ -16,7 +16,10 @@ use Rattle.sc_top.specs.Stages.{goes}
 use Rattle.sc_top.specs.Verdicts.{VerdictsAreExact, judged}
 use Rattle.sc_top.specs.Watching.{Watcher}
 use Rattle.sc_top.specs.declared.request.Request.{Request}
-use Rattle.sc_top.specs.declared.request.Request.TheVariants.{Hier, Flat, Expand, Check}
+use Rattle.sc_top.specs.declared.request.Request.TheVariants.{Hier, Flat, Count, Schedule, Expand, Check}
+use Rattle.sc_top.specs.Reports.{report_text}
+use Rattle.sc_top.specs.Tallied.{durations}
+use Rattle.sc_top.proofs.ModeLemmas.{has_summary, has_plan}
 use Rattle.sc_top.proofs.SourceLaws.{accepted_source, writable}
 
 has_output : (held : List ℕ → Option (List ℕ)) (all : List Watcher) (job : Request) → AreInOrder held job → (output : Output) × Says held all job (Ok output)
@@ -29,6 +32,16 @@ has_output held all (Flat file choice limit kinds burst window reach) here =
       watched (asked_in (Flat file choice limit kinds burst window reach) all) modules,
       goes modules _ (goes modules _ (goes here.text _ (here.holds, here.within) (accepted_source here.text t choice accepted)) (writable limit modules fits)) refl,
     )
+has_output held all (Count file choice times) here =
+    let (t, accepted, within) = here.so in
+    let modules = modules_of t choice in
+    let s = has_summary (durations times) modules within in
+    (done (report_text (is_some times) s.0), goes s.0 _ (goes modules _ (goes here.text _ (here.holds, here.within) (accepted_source here.text t choice accepted)) s.1) refl)
+has_output held all (Schedule file choice k d lpfs times) (some, here) =
+    let (t, accepted, fits) = here.so in
+    let modules = modules_of t choice in
+    let plan = has_plan k d lpfs (durations times) modules some fits in
+    (done (schedule_text plan.0), goes plan.0 _ (goes modules _ (goes here.text _ (here.holds, here.within) (accepted_source here.text t choice accepted)) plan.1) refl)
 has_output held all (Expand file limit) here =
     let (modules, read, fits) = here.so in
     (done (flat (whole modules)), goes modules _ (goes here.text _ (here.holds, here.within) (goes modules _ read (writable limit modules fits))) refl)

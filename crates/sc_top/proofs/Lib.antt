@@ -1,7 +1,9 @@
 mod CarryLemmas
+mod DeckPaths
 mod ExpansionLemmas
 mod FewGates
 mod InOrder
+pub mod ModeLemmas
 pub mod OneAnswer
 mod RunLemmas
 mod SourceLaws

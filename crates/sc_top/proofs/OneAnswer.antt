@@ -46,9 +46,11 @@ use Rattle.sc_top.specs.Verdicts.{IsList, IsPlan, IsVerdict}
 use Rattle.sc_top.specs.Watching.{Watcher}
 use Rattle.sc_top.specs.declared.fault.Refusal.{Refusal}
 use Rattle.sc_top.specs.declared.request.Request.{Request}
-use Rattle.sc_top.specs.declared.request.Request.TheVariants.{Hier, Flat, Expand, Check}
+use Rattle.sc_top.specs.declared.request.Request.TheVariants.{Hier, Flat, Count, Schedule, Expand, Check}
 use Rattle.sc_top.proofs.FewGates.{few_gates}
 use Rattle.sc_top.proofs.SourceLaws.{modules_alike}
+use Rattle.sc_top.specs.Tallied.{durations}
+use Rattle.sc_top.proofs.ModeLemmas.{one_summarized, one_scheduled}
 use Rattle.sc_top.proofs.StageLemmas.{same_some, gives_one, known_fault, then_one_like, then_one, is_one}
 
 abbrev given : (A : Type 0) → A → Result A Refusal
@@ -197,6 +199,8 @@ says_one : (held : List ℕ → Option (List ℕ)) (all : List Watcher) (job : R
 says_one held all (Hier file choice) = then_one (one_source_of held file choice) (λ modules built. is_one _)
 says_one held all (Flat file choice limit kinds burst window reach) =
     then_one (then_one (one_source_of held file choice) (λ modules built. one_writable limit modules)) (λ modules sized. is_one _)
+says_one held all (Count file choice times) = then_one (then_one (one_source_of held file choice) (λ modules built. one_summarized (durations times) modules)) (λ s summed. is_one _)
+says_one held all (Schedule file choice k d lpfs times) = then_one (then_one (one_source_of held file choice) (λ modules built. one_scheduled k d lpfs (durations times) modules)) (λ plan scheduled. is_one _)
 says_one held all (Expand file limit) = then_one (then_one (one_text held most_text_bytes file) (λ text read. one_expansion limit text)) (λ modules sized. is_one _)
 says_one held all (Check list schedule) =
     then_one (then_one (one_text held most_text_bytes list) (λ gates read. then_one (one_text held most_text_bytes schedule) (λ plan also. one_verdict gates plan))) (λ found judged. is_one _)

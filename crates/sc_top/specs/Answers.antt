@@ -1,7 +1,8 @@
 -- What a request is answered.
-use Rattle.std.specs.Prelude.{◌≡◌, ℕ, ◌<◌, ◌≤◌, ◌==◌, ◌&&◌, not, Bool, true, false, List, [], ◌∷◌, ◌++◌, Option, None, Some, Result, Ok, Err, codes, length, if◌then◌else◌}
+use Rattle.std.specs.Prelude.{◌≡◌, ℕ, ◌<◌, ◌≤◌, ◌==◌, ◌&&◌, not, Bool, true, false, List, [], ◌∷◌, ◌++◌, Option, None, Some, Result, Ok, Err, codes, length, is_some, if◌then◌else◌}
 use Rattle.std.specs.Str.{bytes_eq}
 use Rattle.sc_base.specs.Limits.{most_source_bytes, most_text_bytes}
+use Rattle.sc_count.specs.Limits.{IsWithin}
 use Rattle.sc_check.specs.declared.finding.Finding.{Finding}
 use Rattle.sc_deck.specs.Events.{flat, gates_in}
 use Rattle.sc_deck.specs.Hierarchical.{hier}
@@ -11,7 +12,7 @@ use Rattle.sc_meaning.specs.declared.choice.Choice.TheVariants.{Replace}
 use Rattle.sc_read.specs.FlatReads.{IsFlatText}
 use Rattle.sc_read.specs.HierReads.{IsHierText}
 use Rattle.sc_read.specs.declared.flat.FlatText.{FlatText}
-use Rattle.sc_sched.specs.Text.{IsTextOf}
+use Rattle.sc_sched.specs.Text.{IsTextOf, schedule_text}
 use Rattle.sc_sched.specs.declared.plan.Plan.{Plan}
 use Rattle.sc_types.specs.Typing.{TypedSource}
 use Rattle.sc_top.specs.Carried.{Carried}
@@ -19,14 +20,18 @@ use Rattle.sc_top.specs.Endings.{Output}
 use Rattle.sc_top.specs.Expansions.{whole, IsWritable, IsExpansion, FitsFlat}
 use Rattle.sc_top.specs.Fault.{plain}
 use Rattle.sc_top.specs.Sources.{modules_of, IsSource, IsAcceptedAs}
+use Rattle.sc_top.specs.Reports.{report_text}
+use Rattle.sc_top.specs.Scheduled.{IsScheduled, IsSchedulable}
 use Rattle.sc_top.specs.Stages.{Then, Is, HasOne}
+use Rattle.sc_top.specs.Tallied.{durations, counts_by, IsSummarized}
 use Rattle.sc_top.specs.Verdicts.{IsVerdict, judged}
 use Rattle.sc_top.specs.Watching.{Watcher, asked_of, probe_lines, AreSome}
 use Rattle.sc_top.specs.declared.fault.Fault.{Fault}
 use Rattle.sc_top.specs.declared.fault.Refusal.{Refusal}
 use Rattle.sc_top.specs.declared.fault.Reason.TheVariants as reason
+use Rattle.sc_top.specs.declared.report.Summary.{Summary}
 use Rattle.sc_top.specs.declared.request.Request.{Request}
-use Rattle.sc_top.specs.declared.request.Request.TheVariants.{Hier, Flat, Expand, Check}
+use Rattle.sc_top.specs.declared.request.Request.TheVariants.{Hier, Flat, Count, Schedule, Expand, Check}
 use Rattle.sc_top.specs.declared.status.Ending.{Ending}
 use Rattle.sc_top.specs.declared.status.Ending.TheVariants as ending
 
@@ -59,6 +64,11 @@ request (mode ∷ file ∷ []) = file_request mode file
 request (mode ∷ list ∷ schedule ∷ []) = check_request mode list schedule
 request words = None
 
+-- the numbers of a request are at least 1 where they have to be
+abbrev pub InRange : Request → Type 0
+InRange (Schedule file choice k d lpfs times) = (1 ≤ k) × (1 ≤ d)
+InRange _ = Unit {0}
+
 -- ---- the answer of a request
 
 -- the text under the name, of at most so many bytes; a name under which no text is held has no answer
@@ -73,6 +83,14 @@ SourceOf held file choice = Then (IsText held most_source_bytes file) (IsSource 
 -- the same, where its flat text is within the limits and has at most so many gates
 abbrev pub FlatOf : (List ℕ → Option (List ℕ)) → List ℕ → Choice → ℕ → Result (List Module) Refusal → Type 0
 FlatOf held file choice limit = Then (SourceOf held file choice) (IsWritable limit)
+
+-- the numbers of the source under the name, by these durations
+abbrev pub SummaryOf : (List ℕ → Option (List ℕ)) → List ℕ → Choice → Option (List ℕ) → Result Summary Refusal → Type 0
+SummaryOf held file choice times = Then (SourceOf held file choice) (IsSummarized (durations times))
+
+-- the schedule of the source under the name, on k regions of d qubits
+abbrev pub PlanOf : (List ℕ → Option (List ℕ)) → List ℕ → Choice → ℕ → ℕ → Bool → Option (List ℕ) → Result Plan Refusal → Type 0
+PlanOf held file choice k d lpfs times = Then (SourceOf held file choice) (IsScheduled k d lpfs (durations times))
 
 -- the deck of the hierarchical text under the name, whose flat text has at most so many gates
 abbrev pub ExpansionOf : (List ℕ → Option (List ℕ)) → ℕ → List ℕ → Result (List Module) Refusal → Type 0
@@ -101,6 +119,8 @@ abbrev pub Says : (List ℕ → Option (List ℕ)) → List Watcher → Request 
 Says held all (Hier file choice) = Then (SourceOf held file choice) (λ modules. Is (Ok (done (hier modules))))
 Says held all (Flat file choice limit kinds burst window reach) =
     Then (FlatOf held file choice limit) (λ modules. Is (Ok (watched (asked_of (record { kinds = kinds; burst = burst; window = window; reach = reach }) all) modules)))
+Says held all (Count file choice times) = Then (SummaryOf held file choice times) (λ s. Is (Ok (done (report_text (is_some times) s))))
+Says held all (Schedule file choice k d lpfs times) = Then (PlanOf held file choice k d lpfs times) (λ plan. Is (Ok (done (schedule_text plan))))
 Says held all (Expand file limit) = Then (ExpansionOf held limit file) (λ modules. Is (Ok (done (flat (whole modules)))))
 Says held all (Check list schedule) = Then (VerdictOf held list schedule) (λ found. Is (Ok (judged found)))
 Says held all _ = Is (Err (plain reason.Unbuilt))
@@ -153,6 +173,10 @@ abbrev pub AreInOrder : (List ℕ → Option (List ℕ)) → Request → Type 0
 AreInOrder held (Hier file choice) = Holds held most_source_bytes file (λ text. (t : TypedSource) × IsAcceptedAs text t)
 AreInOrder held (Flat file choice limit kinds burst window reach) =
     Holds held most_source_bytes file (λ text. (t : TypedSource) × IsAcceptedAs text t × FitsFlat limit (modules_of t choice))
+AreInOrder held (Count file choice times) =
+    Holds held most_source_bytes file (λ text. (t : TypedSource) × IsAcceptedAs text t × IsWithin (counts_by (durations times) (modules_of t choice)))
+AreInOrder held (Schedule file choice k d lpfs times) =
+    (1 ≤ k) × Holds held most_source_bytes file (λ text. (t : TypedSource) × IsAcceptedAs text t × IsSchedulable d (durations times) (modules_of t choice))
 AreInOrder held (Expand file limit) = Holds held most_text_bytes file (λ text. (modules : List Module) × IsHierText text modules × FitsFlat limit modules)
 AreInOrder held (Check list schedule) =
     Holds held most_text_bytes list (λ text. (gates : FlatText) × IsFlatText text gates × Holds held most_text_bytes schedule (λ other. (plan : Plan) × IsTextOf (length gates.gates) other plan))

@@ -1,16 +1,21 @@
 //! The command.
 #![tactic(auto)]
 
+mod count;
 mod expand;
 mod expansion;
 mod fault;
 mod flat;
 mod hier;
 mod read;
+mod report;
 mod request;
 mod run_all;
+mod schedule;
+mod scheduled;
 mod source;
 mod status;
+mod tallied;
 mod verdict;
 mod watch;
 

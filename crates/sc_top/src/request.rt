@@ -1,11 +1,11 @@
 //! What the words ask for.
 ghost use Rattle.std.specs.Prelude.{◌≡◌, ◌↔◌, map, Some, None, IfOk, IsErrOf};
 ghost use Rattle.std.specs.Rc.{rc_str_bytes};
-ghost use Rattle.sc_top.specs.Answers.{request, file_request, check_request, default_limit, is_file};
+ghost use Rattle.sc_top.specs.Answers.{request, InRange, file_request, check_request, default_limit, is_file};
 
 use sc_base::{Memory, Text};
-use sc_elab::Choice;
 use sc_gate::Times;
+use sc_elab::Choice;
 use std::alloc::Global;
 use std::rc::RcStr;
 
@@ -119,6 +119,7 @@ fn may_name(word: &str) -> bool
 /// The request of `hier FILE`, `flat FILE` or `expand FILE`.
 fn file_words(alloc: Global, mode: &str, file: &str) -> Result<Request, WordsFault>
     ensures asked { IfOk result (λ r. file_request mode.now file.now ≡ Some r) }
+    ensures range { IfOk result InRange }
     ensures usage { IsErrOf result WordsFault.Usage ↔ (file_request mode.now file.now ≡ None) }
 {
     if mode == "hier" && may_name(file) {
@@ -152,6 +153,7 @@ fn file_words(alloc: Global, mode: &str, file: &str) -> Result<Request, WordsFau
 /// The request of `check FLAT SCHEDULE`.
 fn check_words(alloc: Global, mode: &str, flat: &str, schedule: &str) -> Result<Request, WordsFault>
     ensures asked { IfOk result (λ r. check_request mode.now flat.now schedule.now ≡ Some r) }
+    ensures range { IfOk result InRange }
     ensures usage { IsErrOf result WordsFault.Usage ↔ (check_request mode.now flat.now schedule.now ≡ None) }
 {
     if mode == "check" && may_name(flat) && may_name(schedule) {
@@ -166,6 +168,7 @@ fn check_words(alloc: Global, mode: &str, flat: &str, schedule: &str) -> Result<
 /// The request of the words after the program's name. `Usage` comes exactly where they have none.
 pub fn read_words(alloc: Global, words: &[RcStr]) -> Result<Request, WordsFault>
     ensures asked { IfOk result (λ r. request (map rc_str_bytes words.now) ≡ Some r) }
+    ensures range { IfOk result InRange }
     ensures usage { IsErrOf result WordsFault.Usage ↔ (request (map rc_str_bytes words.now) ≡ None) }
 {
     match words {

@@ -3,7 +3,7 @@ ghost use Rattle.std.specs.Prelude.{◌≡◌, ◌≤◌, ◌⊎◌, ◌↔◌, 
 ghost use Rattle.std.specs.Rc.{rc_str_bytes};
 ghost use Rattle.sc_base.specs.Causes.{Rose, Stood};
 ghost use Rattle.sc_base.specs.Output.{Wrote, WrotePrefix};
-ghost use Rattle.sc_top.specs.Answers.{request, CarriedOut, Answers, MayBeLate, MayLeave, HasOneAnswer, HaveOutputs};
+ghost use Rattle.sc_top.specs.Answers.{request, InRange, CarriedOut, Answers, MayBeLate, MayLeave, HasOneAnswer, HaveOutputs};
 ghost use Rattle.sc_top.specs.Carried.{Carried, Short};
 ghost use Rattle.sc_top.specs.Endings.{Output, status_at, is_done, is_early};
 ghost use Rattle.sc_top.specs.Fault.{status_of, fault_line, Tells};
@@ -15,11 +15,13 @@ ghost use Rattle.sc_top.specs.Watching.{watchers};
 ghost use Rattle.sc_top.specs.declared.fault.Fault.{Fault as AnyFault};
 ghost use Rattle.sc_top.specs.declared.fault.Refusal.{Refusal};
 
+use crate::count::carry_count;
 use crate::expand::carry_expand;
 use crate::fault::{Fault, Reason, plainly};
 use crate::flat::carry_flat;
 use crate::hier::carry_hier;
 use crate::request::{Request, WordsFault, read_words};
+use crate::schedule::carry_schedule;
 use crate::status::{Ending, Status};
 use crate::verdict::carry_check;
 use crate::watch::Asked;
@@ -63,7 +65,8 @@ fn carry<F: Shelf, O: Sink>(
     shelf: &mut F,
     out: &mut O,
 ) -> Result<Ending, Fault>
-    requires { O.is_ended out.old ≡ false }
+    requires open { O.is_ended out.old ≡ false }
+    requires range { InRange job.now }
     ensures { CarriedOut F.held F.tells_held F.faults O.tells O.bytes O.is_ended O.faults (watchers rule state probes.items) job.now shelf.old shelf.new out.old out.new result }
 {
     match job {
@@ -98,9 +101,30 @@ fn carry<F: Shelf, O: Sink>(
         Request::Check { flat, schedule } => {
             carry_check(alloc, flat.as_bytes(), schedule.as_bytes(), shelf, out)
         }
-        Request::Count { .. }
-        | Request::Schedule { .. }
-        | Request::Drill { .. }
+        Request::Count {
+            file,
+            choice,
+            times,
+        } => carry_count(alloc, file.as_bytes(), *choice, *times, shelf, out),
+        Request::Schedule {
+            file,
+            choice,
+            k,
+            d,
+            lpfs,
+            times,
+        } => carry_schedule(
+            alloc,
+            file.as_bytes(),
+            *choice,
+            *k,
+            *d,
+            *lpfs,
+            *times,
+            shelf,
+            out,
+        ),
+        Request::Drill { .. }
         | Request::Coarse { .. }
         | Request::ToOpen { .. }
         | Request::FromOpen { .. }

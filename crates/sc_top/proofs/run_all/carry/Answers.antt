@@ -11,3 +11,14 @@ returns-in-Expand g c = rw c.in-Expand.is (rw c.as_bytes-in-Expand.ensures at c.
 
 pub returns-in-Check : goal.returns-in-Check
 returns-in-Check g c = rw c.in-Check.is (rw (c.as_bytes-in-Check.ensures, c.as_bytes-in-Check-2.ensures) at c.carry_check.ensures)
+
+pub returns-in-Count : goal.returns-in-Count
+returns-in-Count g c = rw c.in-Count.is (rw c.as_bytes-in-Count.ensures at c.carry_count.ensures)
+
+pub carry_schedule-requires : goal.carry_schedule-requires
+carry_schedule-requires g c =
+    let range = rw c.in-Schedule.is at c.requires.range in
+    record { «open» = c.requires.«open»; k = range.0; d = range.1 }
+
+pub returns-in-Schedule : goal.returns-in-Schedule
+returns-in-Schedule g c = rw c.in-Schedule.is (rw c.as_bytes-in-Schedule.ensures at c.carry_schedule.ensures)
