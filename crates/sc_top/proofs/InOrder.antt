@@ -8,15 +8,16 @@ use Rattle.sc_deck.specs.Hierarchical.{hier}
 use Rattle.sc_gate.specs.declared.gate.Gate.{Gate}
 use Rattle.sc_sched.specs.Text.{IsTextOf, schedule_text}
 use Rattle.sc_sched.specs.declared.plan.Plan.{Plan}
-use Rattle.sc_top.specs.Answers.{Says, OfRequest, AreInOrder, HaveOutputs, request, done, watched, asked_in}
+use Rattle.sc_top.specs.Answers.{Says, OfRequest, AreInOrder, HaveOutputs, done, watched, asked_in}
+use Rattle.sc_words.specs.Words.{request}
 use Rattle.sc_top.specs.Endings.{Output}
 use Rattle.sc_top.specs.Expansions.{whole}
 use Rattle.sc_top.specs.Sources.{modules_of}
 use Rattle.sc_top.specs.Stages.{goes}
 use Rattle.sc_top.specs.Verdicts.{VerdictsAreExact, judged}
 use Rattle.sc_top.specs.Watching.{Watcher}
-use Rattle.sc_top.specs.declared.request.Request.{Request}
-use Rattle.sc_top.specs.declared.request.Request.TheVariants.{Hier, Flat, Count, Schedule, Expand, Check}
+use Rattle.sc_words.specs.declared.Request.{Request}
+use Rattle.sc_words.specs.declared.Request.TheVariants.{Hier, Flat, Count, Schedule, Expand, Check}
 use Rattle.sc_top.specs.Reports.{report_text}
 use Rattle.sc_top.specs.Tallied.{durations}
 use Rattle.sc_top.proofs.ModeLemmas.{has_summary, has_plan}

@@ -5,6 +5,7 @@ mod FewGates
 mod InOrder
 pub mod ModeLemmas
 pub mod OneAnswer
+mod Ranges
 mod RunLemmas
 mod SourceLaws
 mod StageLemmas

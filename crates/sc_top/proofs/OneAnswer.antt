@@ -36,7 +36,8 @@ use Rattle.sc_syntax.specs.declared.Token.{Token}
 use Rattle.sc_types.proofs.OneFault.{one_fault as one_type_fault}
 use Rattle.sc_types.specs.Sources.{fault_of}
 use Rattle.sc_types.specs.Typing.{TypedSource}
-use Rattle.sc_top.specs.Answers.{IsText, SourceOf, Says, OfRequest, request, HasOneAnswer}
+use Rattle.sc_top.specs.Answers.{IsText, SourceOf, Says, OfRequest, HasOneAnswer}
+use Rattle.sc_words.specs.Words.{request}
 use Rattle.sc_top.specs.Endings.{Output}
 use Rattle.sc_top.specs.Expansions.{IsDeckOf, IsCounted, IsOversized, IsSized, IsWritable, IsExpansion, whole_counts}
 use Rattle.sc_top.specs.Fault.{token_refusal, grammar_refusal, type_refusal, elab_refusal, flat_refusal, plan_refusal, hier_refusal}
@@ -45,8 +46,8 @@ use Rattle.sc_top.specs.Stages.{Then, stops, goes, HasOne, HasOneLike}
 use Rattle.sc_top.specs.Verdicts.{IsList, IsPlan, IsVerdict}
 use Rattle.sc_top.specs.Watching.{Watcher}
 use Rattle.sc_top.specs.declared.fault.Refusal.{Refusal}
-use Rattle.sc_top.specs.declared.request.Request.{Request}
-use Rattle.sc_top.specs.declared.request.Request.TheVariants.{Hier, Flat, Count, Schedule, Expand, Check}
+use Rattle.sc_words.specs.declared.Request.{Request}
+use Rattle.sc_words.specs.declared.Request.TheVariants.{Hier, Flat, Count, Schedule, Expand, Check}
 use Rattle.sc_top.proofs.FewGates.{few_gates}
 use Rattle.sc_top.proofs.SourceLaws.{modules_alike}
 use Rattle.sc_top.specs.Tallied.{durations}

@@ -3,7 +3,8 @@ use Rattle.std.proofs.Common.{◌≡◌, ℕ, Bool, false, true, IsTrue, List, O
 use Rattle.sc_base.specs.Causes.{Stood}
 use Rattle.sc_base.specs.Output.{Wrote}
 use Rattle.sc_base.proofs.CauseLemmas.{rose-stood}
-use Rattle.sc_top.specs.Answers.{request, Says, IsLate, Leaves, OfRequest, Answers, MayBeLate, MayLeave, CarriedOut}
+use Rattle.sc_top.specs.Answers.{Says, IsLate, Leaves, OfRequest, Answers, MayBeLate, MayLeave, CarriedOut}
+use Rattle.sc_words.specs.Words.{request}
 use Rattle.sc_top.specs.Carried.{Short, Carried}
 use Rattle.sc_top.specs.Endings.{Output, status_at, is_done}
 use Rattle.sc_top.specs.Fault.{weight_of, weight_status, status_of}
@@ -16,7 +17,7 @@ use Rattle.sc_top.specs.declared.fault.Fault.TheVariants as fault
 use Rattle.sc_top.specs.declared.fault.Refusal.{Refusal}
 use Rattle.sc_top.specs.declared.fault.Weight.{Weight}
 use Rattle.sc_top.specs.declared.fault.Weight.TheVariants as weight
-use Rattle.sc_top.specs.declared.request.Request.{Request}
+use Rattle.sc_words.specs.declared.Request.{Request}
 use Rattle.sc_top.specs.declared.status.Ending.{Ending}
 use Rattle.sc_top.specs.declared.status.Ending.TheVariants as ending
 use Rattle.sc_top.specs.declared.status.Status.TheVariants as status

@@ -30,39 +30,13 @@ use Rattle.sc_top.specs.declared.fault.Fault.{Fault}
 use Rattle.sc_top.specs.declared.fault.Refusal.{Refusal}
 use Rattle.sc_top.specs.declared.fault.Reason.TheVariants as reason
 use Rattle.sc_top.specs.declared.report.Summary.{Summary}
-use Rattle.sc_top.specs.declared.request.Request.{Request}
-use Rattle.sc_top.specs.declared.request.Request.TheVariants.{Hier, Flat, Count, Schedule, Expand, Check}
+use Rattle.sc_words.specs.Words.{request}
+use Rattle.sc_words.specs.declared.Request.{Request}
+use Rattle.sc_words.specs.declared.Request.TheVariants.{Hier, Flat, Count, Schedule, Expand, Check}
 use Rattle.sc_top.specs.declared.status.Ending.{Ending}
 use Rattle.sc_top.specs.declared.status.Ending.TheVariants as ending
 
--- ---- the words
-
--- a name of a file: `-`, the empty word, or a word that does not begin with `-`
-abbrev pub is_file : List ℕ → Bool
-is_file [] = true
-is_file (c ∷ []) = true
-is_file (c ∷ d ∷ rest) = not (c == 45)
-
--- the most gates of a flat text, where the words name no limit
-abbrev pub default_limit : ℕ
-default_limit = 10000000
-
--- what `hier FILE`, `flat FILE` or `expand FILE` asks for
-abbrev pub file_request : List ℕ → List ℕ → Option Request
-file_request mode file =
-    if bytes_eq (codes "hier") mode && is_file file then Some (Hier file Replace)
-    else (if bytes_eq (codes "flat") mode && is_file file then Some (Flat file Replace default_limit false false false false)
-    else (if bytes_eq (codes "expand") mode && is_file file then Some (Expand file default_limit) else None))
-
--- what `check FLAT SCHEDULE` asks for
-abbrev pub check_request : List ℕ → List ℕ → List ℕ → Option Request
-check_request mode list schedule = if bytes_eq (codes "check") mode && is_file list && is_file schedule then Some (Check list schedule) else None
-
--- what words ask for
-abbrev pub request : List (List ℕ) → Option Request
-request (mode ∷ file ∷ []) = file_request mode file
-request (mode ∷ list ∷ schedule ∷ []) = check_request mode list schedule
-request words = None
+-- ---- the requests
 
 -- the numbers of a request are at least 1 where they have to be
 abbrev pub InRange : Request → Type 0

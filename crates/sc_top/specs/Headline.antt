@@ -14,7 +14,7 @@ use Rattle.sc_top.specs.Answers.{Says, done}
 use Rattle.sc_top.specs.Expansions.{whole, FitsFlat}
 use Rattle.sc_top.specs.Sources.{modules_of, IsAcceptedAs}
 use Rattle.sc_top.specs.Watching.{Watcher}
-use Rattle.sc_top.specs.declared.request.Request.TheVariants.{Hier, Flat, Expand}
+use Rattle.sc_words.specs.declared.Request.TheVariants.{Hier, Flat, Expand}
 
 -- the flat text of the meaning of a source, with the sums of the fresh wires of its run
 abbrev pub meaning_text : TypedSource → Choice → List ℕ

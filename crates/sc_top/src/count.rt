@@ -2,7 +2,7 @@
 ghost use Rattle.std.specs.Prelude.{◌≡◌, [], false};
 ghost use Rattle.sc_top.specs.Answers.{SummaryOf, CarriedOut};
 ghost use Rattle.sc_top.specs.Carried.{Took};
-ghost use Rattle.sc_top.specs.declared.request.Request.TheVariants as requests;
+ghost use Rattle.sc_words.specs.declared.Request.TheVariants as requests;
 
 use crate::fault::Fault;
 use crate::report::{Summary, print_report};

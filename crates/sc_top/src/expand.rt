@@ -7,7 +7,7 @@ ghost use Rattle.sc_top.specs.Answers.{ExpansionOf, CarriedOut};
 ghost use Rattle.sc_top.specs.Carried.{Took, Prints};
 ghost use Rattle.sc_top.specs.Expansions.{whole, IsDeckOf, IsExpansion};
 ghost use Rattle.sc_top.specs.Stages.{Found};
-ghost use Rattle.sc_top.specs.declared.request.Request.TheVariants as requests;
+ghost use Rattle.sc_words.specs.declared.Request.TheVariants as requests;
 
 use crate::expansion::{Expansion, sized};
 use crate::fault::{Fault, hier_fault};

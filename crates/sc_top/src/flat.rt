@@ -6,7 +6,7 @@ ghost use Rattle.sc_top.specs.Answers.{FlatOf, CarriedOut};
 ghost use Rattle.sc_top.specs.Carried.{Took, PrintsLate};
 ghost use Rattle.sc_top.specs.Expansions.{whole};
 ghost use Rattle.sc_top.specs.Watching.{watchers, probe_lines, AreSome};
-ghost use Rattle.sc_top.specs.declared.request.Request.TheVariants as requests;
+ghost use Rattle.sc_words.specs.declared.Request.TheVariants as requests;
 
 use crate::expansion::{Expansion, sized};
 use crate::fault::Fault;

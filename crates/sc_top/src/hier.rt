@@ -3,7 +3,7 @@ ghost use Rattle.std.specs.Prelude.{◌≡◌, [], false};
 ghost use Rattle.sc_deck.specs.Hierarchical.{hier};
 ghost use Rattle.sc_top.specs.Answers.{CarriedOut};
 ghost use Rattle.sc_top.specs.Carried.{Prints};
-ghost use Rattle.sc_top.specs.declared.request.Request.TheVariants as requests;
+ghost use Rattle.sc_words.specs.declared.Request.TheVariants as requests;
 
 use crate::fault::Fault;
 use crate::source::source_of;

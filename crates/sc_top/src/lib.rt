@@ -9,7 +9,6 @@ mod flat;
 mod hier;
 mod read;
 mod report;
-mod request;
 mod run_all;
 mod schedule;
 mod scheduled;
@@ -20,6 +19,6 @@ mod verdict;
 mod watch;
 
 pub use fault::{At, Fault, Reason, Refusal};
-pub use request::{Request, WordsFault, read_words};
 pub use run_all::run;
+pub use sc_words::{Request, WordsFault, read_words};
 pub use status::{Ending, Status};

@@ -3,7 +3,8 @@ ghost use Rattle.std.specs.Prelude.{◌≡◌, ◌≤◌, ◌⊎◌, ◌↔◌, 
 ghost use Rattle.std.specs.Rc.{rc_str_bytes};
 ghost use Rattle.sc_base.specs.Causes.{Rose, Stood};
 ghost use Rattle.sc_base.specs.Output.{Wrote, WrotePrefix};
-ghost use Rattle.sc_top.specs.Answers.{request, InRange, CarriedOut, Answers, MayBeLate, MayLeave, HasOneAnswer, HaveOutputs};
+ghost use Rattle.sc_words.specs.Words.{request};
+ghost use Rattle.sc_top.specs.Answers.{InRange, CarriedOut, Answers, MayBeLate, MayLeave, HasOneAnswer, HaveOutputs};
 ghost use Rattle.sc_top.specs.Carried.{Carried, Short};
 ghost use Rattle.sc_top.specs.Endings.{Output, status_at, is_done, is_early};
 ghost use Rattle.sc_top.specs.Fault.{status_of, fault_line, Tells};
@@ -20,7 +21,7 @@ use crate::expand::carry_expand;
 use crate::fault::{Fault, Reason, plainly};
 use crate::flat::carry_flat;
 use crate::hier::carry_hier;
-use crate::request::{Request, WordsFault, read_words};
+use sc_words::{Request, WordsFault, read_words};
 use crate::schedule::carry_schedule;
 use crate::status::{Ending, Status};
 use crate::verdict::carry_check;

@@ -5,7 +5,7 @@ ghost use Rattle.sc_top.specs.Answers.{VerdictOf, CarriedOut};
 ghost use Rattle.sc_top.specs.Carried.{Took, Prints};
 ghost use Rattle.sc_top.specs.Stages.{Found};
 ghost use Rattle.sc_top.specs.Verdicts.{IsList, IsPlan, IsVerdict, finding_text, finding_ends};
-ghost use Rattle.sc_top.specs.declared.request.Request.TheVariants as requests;
+ghost use Rattle.sc_words.specs.declared.Request.TheVariants as requests;
 
 use crate::fault::{Fault, flat_fault, plan_fault};
 use crate::read::read_text;
