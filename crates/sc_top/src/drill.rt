@@ -1,0 +1,124 @@
+//! The large source of a number, and what is told of it.
+ghost use Rattle.std.specs.Prelude.{◌≡◌, ◌-◌, ◌≤◌, ◌++◌, false, decimal, flat_map, length, IfOk, OnOk};
+ghost use Rattle.std.specs.List.{range_with_len};
+ghost use Rattle.sc_base.specs.Causes.{HasCause};
+ghost use Rattle.sc_base.specs.Limits.{most_source_bytes};
+ghost use Rattle.sc_base.specs.Output.{Wrote, WrotePrefix};
+ghost use Rattle.sc_top.specs.Carried.{Prints};
+ghost use Rattle.sc_top.specs.Drills.{module_line, call_line, drill_text, drill_summary};
+
+use crate::report::Summary;
+use sc_base::{LineBuffer, Memory, Sink, Text, WriteFault};
+use sc_gate::write_number_line;
+use std::alloc::Global;
+
+/// A source that is larger the greater `n` is, from 1 to 50,000, to try the compiler by: `n` modules on three qubits, each
+/// but the first with two calls of that of half its number, and a main that calls each of them. It is the same text each
+/// time, of at most 16,777,216 bytes. Refused for want of memory alone.
+pub fn drill_source(alloc: Global, n: u32) -> Result<Text, Memory>
+    requires some { 1 ≤ n }
+    requires most { n ≤ 50000 }
+    ensures text { IfOk result (λ text. text ≡ drill_text n) }
+    ensures within { IfOk result (λ text. length text ≤ most_source_bytes) }
+{
+    let mut text = Text::new(alloc);
+    text.push_bytes(b"module m1(qbit a, qbit b, qbit c) { H(a); CNOT(a, b); T(c); }\n")?;
+    push_modules(&mut text, n)?;
+    text.push_bytes(b"int main() { qbit q[3];\n")?;
+    push_calls(&mut text, n)?;
+    text.push_bytes(b"}\n")?;
+    Ok(text)
+}
+
+/// Appends the modules 2 to `n`.
+fn push_modules(text: &mut Text, n: u32) -> Result<(), Memory>
+    requires { n ≤ 50000 }
+    ensures { OnOk result (text.new ≡ text.old ++ flat_map module_line (range_with_len 2 (n - 1))) }
+{
+    for i in 2..n + 1 {
+        push_module(text, i)?;
+    }
+    Ok(())
+}
+
+/// Appends the calls of modules 1 to `n`.
+fn push_calls(text: &mut Text, n: u32) -> Result<(), Memory>
+    requires { n ≤ 50000 }
+    ensures { OnOk result (text.new ≡ text.old ++ flat_map call_line (range_with_len 1 n)) }
+{
+    for i in 1..n + 1 {
+        push_call(text, i)?;
+    }
+    Ok(())
+}
+
+fn push_module(text: &mut Text, i: u32) -> Result<(), Memory>
+    ensures { OnOk result (text.new ≡ text.old ++ module_line i) }
+{
+    let half = i / 2;
+    push_numbered(text, b"module m", i)?;
+    push_numbered(text, b"(qbit a, qbit b, qbit c) { m", half)?;
+    push_numbered(text, b"(b, c, a); H(a); CNOT(a, b); T(c); m", half)?;
+    text.push_bytes(b"(a, b, c); }\n")?;
+    Ok(())
+}
+
+fn push_call(text: &mut Text, i: u32) -> Result<(), Memory>
+    ensures { OnOk result (text.new ≡ text.old ++ call_line i) }
+{
+    push_numbered(text, b"m", i)?;
+    text.push_bytes(b"(q[0], q[1], q[2]);\n")?;
+    Ok(())
+}
+
+/// Appends some bytes and the decimal text of a number.
+fn push_numbered(text: &mut Text, front: &[u8], number: u32) -> Result<(), Memory>
+    requires { length front.now ≤ 70 }
+    ensures { OnOk result (text.new ≡ text.old ++ front.now ++ decimal number) }
+{
+    let mut line = LineBuffer::new();
+    line.push(front);
+    line.push_number(number);
+    text.push_bytes(line.as_bytes())
+}
+
+/// Writes the summary of the source of `n`, which has so many bytes, and ends the sink. Takes no memory.
+pub(crate) fn print_drill<O: Sink>(
+    n: u32,
+    bytes: usize,
+    summary: &Summary,
+    out: &mut O,
+) -> Result<(), WriteFault>
+    requires open { O.is_ended out.old ≡ false }
+    requires bytes { bytes ≡ length (drill_text n) }
+    ensures { Prints O.tells O.bytes O.is_ended O.faults out.old out.new (drill_summary n summary.now) result }
+{
+    write_drill(n, bytes, summary, out)?;
+    match out.finish() {
+        Ok(()) => Ok(()),
+        Err(_) => Err(WriteFault),
+    }
+}
+
+/// Writes the summary. Takes no memory. At a fault of the sink a prefix of it is written.
+fn write_drill<O: Sink>(
+    n: u32,
+    bytes: usize,
+    summary: &Summary,
+    out: &mut O,
+) -> Result<(), WriteFault>
+    requires open { O.is_ended out.old ≡ false }
+    requires bytes { bytes ≡ length (drill_text n) }
+    ensures open { O.is_ended out.new ≡ false }
+    ensures appended { OnOk result (Wrote O.tells O.bytes out.old out.new (drill_summary n summary.now)) }
+    ensures prefix { WrotePrefix O.tells O.bytes out.old out.new (drill_summary n summary.now) }
+    ensures cause { HasCause (O.faults out.old) (O.faults out.new) result }
+{
+    write_number_line(b"drill", u128::from(n), out)?;
+    write_number_line(b"bytes", bytes as u128, out)?;
+    write_number_line(b"instances", u128::from(summary.instances), out)?;
+    write_number_line(b"qubits", summary.counts.qubits, out)?;
+    write_number_line(b"gates", summary.counts.gates, out)?;
+    write_number_line(b"critical", summary.critical, out)?;
+    Ok(())
+}
