@@ -1,30 +1,35 @@
 -- What a request is answered.
-use Rattle.std.specs.Prelude.{◌≡◌, ℕ, ◌<◌, ◌≤◌, ◌==◌, ◌&&◌, not, Bool, true, List, [], ◌∷◌, Option, None, Some, Result, Ok, Err, codes, length, if◌then◌else◌}
+use Rattle.std.specs.Prelude.{◌≡◌, ℕ, ◌<◌, ◌≤◌, ◌==◌, ◌&&◌, not, Bool, true, false, List, [], ◌∷◌, ◌++◌, Option, None, Some, Result, Ok, Err, codes, length, if◌then◌else◌}
 use Rattle.std.specs.Str.{bytes_eq}
 use Rattle.sc_base.specs.Limits.{most_source_bytes, most_text_bytes}
 use Rattle.sc_check.specs.declared.finding.Finding.{Finding}
-use Rattle.sc_deck.specs.Events.{flat}
+use Rattle.sc_deck.specs.Events.{flat, gates_in}
+use Rattle.sc_deck.specs.Hierarchical.{hier}
 use Rattle.sc_deck.specs.Modules.{Module}
-use Rattle.sc_gate.specs.Lines.{flat_text}
+use Rattle.sc_meaning.specs.declared.choice.Choice.{Choice}
+use Rattle.sc_meaning.specs.declared.choice.Choice.TheVariants.{Replace}
 use Rattle.sc_read.specs.FlatReads.{IsFlatText}
+use Rattle.sc_read.specs.HierReads.{IsHierText}
 use Rattle.sc_read.specs.declared.flat.FlatText.{FlatText}
 use Rattle.sc_sched.specs.Text.{IsTextOf}
 use Rattle.sc_sched.specs.declared.plan.Plan.{Plan}
+use Rattle.sc_types.specs.Typing.{TypedSource}
 use Rattle.sc_top.specs.Carried.{Carried}
-use Rattle.sc_top.specs.Circuits.{IsCircuit, IsFirstSource}
 use Rattle.sc_top.specs.Endings.{Output}
-use Rattle.sc_top.specs.Expansions.{whole, IsExpansion, IsExpandable}
+use Rattle.sc_top.specs.Expansions.{whole, IsWritable, IsExpansion, FitsFlat}
 use Rattle.sc_top.specs.Fault.{plain}
+use Rattle.sc_top.specs.Sources.{modules_of, IsSource, IsAcceptedAs}
 use Rattle.sc_top.specs.Stages.{Then, Is, HasOne}
 use Rattle.sc_top.specs.Verdicts.{IsVerdict, judged}
-use Rattle.sc_top.specs.declared.circuit.Circuit.{Circuit}
+use Rattle.sc_top.specs.Watching.{Watcher, asked_of, probe_lines, AreSome}
 use Rattle.sc_top.specs.declared.fault.Fault.{Fault}
 use Rattle.sc_top.specs.declared.fault.Refusal.{Refusal}
 use Rattle.sc_top.specs.declared.fault.Reason.TheVariants as reason
 use Rattle.sc_top.specs.declared.request.Request.{Request}
-use Rattle.sc_top.specs.declared.request.Request.TheVariants.{Flat, Expand, Check}
+use Rattle.sc_top.specs.declared.request.Request.TheVariants.{Hier, Flat, Expand, Check}
 use Rattle.sc_top.specs.declared.status.Ending.{Ending}
 use Rattle.sc_top.specs.declared.status.Ending.TheVariants as ending
+use Rattle.sc_top.specs.declared.watch.Asked.{Asked}
 
 -- ---- the words
 
@@ -38,10 +43,12 @@ is_file (c ∷ d ∷ rest) = not (c == 45)
 abbrev pub default_limit : ℕ
 default_limit = 10000000
 
--- what `flat FILE` or `expand FILE` asks for
+-- what `hier FILE`, `flat FILE` or `expand FILE` asks for
 abbrev pub file_request : List ℕ → List ℕ → Option Request
 file_request mode file =
-    if bytes_eq (codes "flat") mode && is_file file then Some (Flat file) else (if bytes_eq (codes "expand") mode && is_file file then Some (Expand file default_limit) else None)
+    if bytes_eq (codes "hier") mode && is_file file then Some (Hier file Replace)
+    else (if bytes_eq (codes "flat") mode && is_file file then Some (Flat file Replace default_limit false false false false)
+    else (if bytes_eq (codes "expand") mode && is_file file then Some (Expand file default_limit) else None))
 
 -- what `check FLAT SCHEDULE` asks for
 abbrev pub check_request : List ℕ → List ℕ → List ℕ → Option Request
@@ -60,9 +67,13 @@ abbrev pub IsText : (List ℕ → Option (List ℕ)) → ℕ → List ℕ → Re
 IsText held most file (Ok text) = (held file ≡ Some text) × (length text ≤ most)
 IsText held most file (Err refusal) = (text : List ℕ) × (held file ≡ Some text) × (most < length text) × (refusal ≡ plain reason.SourceTooLarge)
 
--- the circuit of the source under the name
-abbrev pub FlatOf : (List ℕ → Option (List ℕ)) → List ℕ → Result Circuit Refusal → Type 0
-FlatOf held file = Then (IsText held most_source_bytes file) IsCircuit
+-- the deck of the source under the name
+abbrev pub SourceOf : (List ℕ → Option (List ℕ)) → List ℕ → Choice → Result (List Module) Refusal → Type 0
+SourceOf held file choice = Then (IsText held most_source_bytes file) (IsSource choice)
+
+-- the same, where its flat text is within the limits and has at most so many gates
+abbrev pub FlatOf : (List ℕ → Option (List ℕ)) → List ℕ → Choice → ℕ → Result (List Module) Refusal → Type 0
+FlatOf held file choice limit = Then (SourceOf held file choice) (IsWritable limit)
 
 -- the deck of the hierarchical text under the name, whose flat text has at most so many gates
 abbrev pub ExpansionOf : (List ℕ → Option (List ℕ)) → ℕ → List ℕ → Result (List Module) Refusal → Type 0
@@ -76,11 +87,33 @@ VerdictOf held list schedule = Then (IsText held most_text_bytes list) (λ gates
 abbrev pub done : List ℕ → Output
 done text = record { text = text; ends = ending.Done }
 
--- THE ANSWER of a request over the held texts, where memory is found and no call of shelf or sink fails
-abbrev pub Says : (List ℕ → Option (List ℕ)) → Request → Result Output Refusal → Type 0
-Says held (Flat file) = Then (FlatOf held file) (λ circuit. Is (Ok (done (flat_text circuit.qubits 0 circuit.gates))))
-Says held (Expand file limit) = Then (ExpansionOf held limit file) (λ modules. Is (Ok (done (flat (whole modules)))))
-Says held (Check list schedule) = Then (VerdictOf held list schedule) (λ found. Is (Ok (judged found)))
+-- the flat text of a deck, and behind it the lines of these probes
+abbrev pub watched : List Watcher → List Module → Output
+watched all modules = done (flat (whole modules) ++ probe_lines (gates_in (whole modules)) all)
+
+-- the probes that the request asks for
+abbrev pub asked_in : Request → List Watcher → List Watcher
+asked_in (Flat file choice limit kinds burst window reach) all = asked_of (record { kinds = kinds; burst = burst; window = window; reach = reach }) all
+asked_in _ all = []
+
+-- THE ANSWER of a request over the held texts and the probes that are handed in, where memory is found and no call of shelf or sink
+-- fails. Other requests are not built yet.
+abbrev pub Says : (List ℕ → Option (List ℕ)) → List Watcher → Request → Result Output Refusal → Type 0
+Says held all (Hier file choice) = Then (SourceOf held file choice) (λ modules. Is (Ok (done (hier modules))))
+Says held all (Flat file choice limit kinds burst window reach) =
+    Then (FlatOf held file choice limit) (λ modules. Is (Ok (watched (asked_of (record { kinds = kinds; burst = burst; window = window; reach = reach }) all) modules)))
+Says held all (Expand file limit) = Then (ExpansionOf held limit file) (λ modules. Is (Ok (done (flat (whole modules)))))
+Says held all (Check list schedule) = Then (VerdictOf held list schedule) (λ found. Is (Ok (judged found)))
+Says held all _ = Is (Err (plain reason.Unbuilt))
+
+-- memory may be wanting after the first byte of output: where a probe that was handed in is asked for
+abbrev pub IsLate : List Watcher → Request → Type 0
+IsLate all job = AreSome (asked_in job all)
+
+-- then exactly the flat text stands
+abbrev pub Leaves : (List ℕ → Option (List ℕ)) → Request → List ℕ → Type 0
+Leaves held (Flat file choice limit kinds burst window reach) text = (modules : List Module) × FlatOf held file choice limit (Ok modules) × (text ≡ flat (whole modules))
+Leaves held _ text = ⊥
 
 -- ---- the words and their answers
 
@@ -89,17 +122,23 @@ abbrev pub OfRequest : (Request → Type 0) → Option Request → Type 0
 OfRequest So None = ⊥
 OfRequest So (Some job) = So job
 
-abbrev pub Answers : (List ℕ → Option (List ℕ)) → List (List ℕ) → Result Output Refusal → Type 0
-Answers held words answer = OfRequest (λ job. Says held job answer) (request words)
+abbrev pub Answers : (List ℕ → Option (List ℕ)) → List Watcher → List (List ℕ) → Result Output Refusal → Type 0
+Answers held all words answer = OfRequest (λ job. Says held all job answer) (request words)
 
--- a request is carried out: the clauses of each function that carries one out
-abbrev pub CarriedOut : {F O : Type 0} → (F → List ℕ → Option (List ℕ)) → (F → Bool) → (F → ℕ) → (O → Bool) → (O → List ℕ) → (O → Bool) → (O → ℕ) → Request → (shelf_old shelf_new : F) → (old new : O) → Result Ending Fault → Type 0
-CarriedOut held tells_held shelf_faults tells bytes is_ended faults job shelf_old shelf_new old new result =
-    Carried held tells_held shelf_faults tells bytes is_ended faults ⊥ (λ texts. Says texts job) shelf_old shelf_new old new result
+abbrev pub MayBeLate : List Watcher → List (List ℕ) → Type 0
+MayBeLate all words = OfRequest (IsLate all) (request words)
+
+abbrev pub MayLeave : (List ℕ → Option (List ℕ)) → List (List ℕ) → List ℕ → Type 0
+MayLeave held words text = OfRequest (λ job. Leaves held job text) (request words)
+
+-- a request is carried out, with these probes: the clauses of each function that carries one out
+abbrev pub CarriedOut : {F O : Type 0} → (F → List ℕ → Option (List ℕ)) → (F → Bool) → (F → ℕ) → (O → Bool) → (O → List ℕ) → (O → Bool) → (O → ℕ) → List Watcher → Request → (shelf_old shelf_new : F) → (old new : O) → Result Ending Fault → Type 0
+CarriedOut held tells_held shelf_faults tells bytes is_ended faults all job shelf_old shelf_new old new result =
+    Carried held tells_held shelf_faults tells bytes is_ended faults ⊥ (λ texts. Says texts all job) (IsLate all job) (λ texts. Leaves texts job) shelf_old shelf_new old new result
 
 -- words have one answer at most
 abbrev pub HasOneAnswer : Type 0
-HasOneAnswer = (held : List ℕ → Option (List ℕ)) (words : List (List ℕ)) → HasOne (Answers held words)
+HasOneAnswer = (held : List ℕ → Option (List ℕ)) (all : List Watcher) (words : List (List ℕ)) → HasOne (Answers held all words)
 
 -- ---- texts that are in order
 
@@ -112,11 +151,14 @@ pub record Holds (held : List ℕ → Option (List ℕ)) (most : ℕ) (file : Li
 
 -- each text of the request is accepted or in its grammar, and no limit of the request is passed
 abbrev pub AreInOrder : (List ℕ → Option (List ℕ)) → Request → Type 0
-AreInOrder held (Flat file) = Holds held most_source_bytes file IsFirstSource
-AreInOrder held (Expand file limit) = Holds held most_text_bytes file (IsExpandable limit)
+AreInOrder held (Hier file choice) = Holds held most_source_bytes file (λ text. (t : TypedSource) × IsAcceptedAs text t)
+AreInOrder held (Flat file choice limit kinds burst window reach) =
+    Holds held most_source_bytes file (λ text. (t : TypedSource) × IsAcceptedAs text t × FitsFlat limit (modules_of t choice))
+AreInOrder held (Expand file limit) = Holds held most_text_bytes file (λ text. (modules : List Module) × IsHierText text modules × FitsFlat limit modules)
 AreInOrder held (Check list schedule) =
     Holds held most_text_bytes list (λ text. (gates : FlatText) × IsFlatText text gates × Holds held most_text_bytes schedule (λ other. (plan : Plan) × IsTextOf (length gates.gates) other plan))
+AreInOrder held _ = ⊥
 
 -- words whose texts are in order have an output
 abbrev pub HaveOutputs : Type 0
-HaveOutputs = (held : List ℕ → Option (List ℕ)) (words : List (List ℕ)) → OfRequest (AreInOrder held) (request words) → (output : Output) × Answers held words (Ok output)
+HaveOutputs = (held : List ℕ → Option (List ℕ)) (all : List Watcher) (words : List (List ℕ)) → OfRequest (AreInOrder held) (request words) → (output : Output) × Answers held all words (Ok output)

@@ -30,6 +30,14 @@ pub record Prints {O T E : Type 0} (tells : O → Bool) (bytes : O → List ℕ)
   pub still_open : OnErr result (is_ended new ≡ false)
   pub cause : HasCause (faults old) (faults new) result
 
+-- the same where memory may be wanting between a first part of the text and the rest, if this is so
+pub record PrintsLate {O T : Type 0} (tells : O → Bool) (bytes : O → List ℕ) (is_ended : O → Bool) (faults : O → ℕ) (Late : Type 0) (old new : O) (part text : List ℕ) (result : Result T Fault) : Type 0 where
+  pub whole : OnOk result (Wrote tells bytes old new text)
+  pub ended : OnOk result (is_ended new ≡ true)
+  pub still_open : OnErr result (is_ended new ≡ false)
+  pub later : faults old ≤ faults new
+  pub fault : IfErr result (Why ⊥ ⊥ (Rose (faults old) (faults new) × WrotePrefix tells bytes old new text) (Late × Wrote tells bytes old new part) (λ r. ⊥))
+
 -- the whole output stands
 pub record Finished {O : Type 0} (tells : O → Bool) (bytes : O → List ℕ) (Told : Type 0) (Answers : Result Output Refusal → Type 0) (old new : O) (ends : Ending) : Type 0 where
   pub whole : Told → (text : List ℕ) × Answers (Ok (record { text = text; ends = ends })) × Wrote tells bytes old new text
@@ -43,10 +51,16 @@ pub record Refuses {O : Type 0} (Told : Type 0) (Answers : Result Output Refusal
   pub same : new ≡ old
   pub answer : Told → Answers (Err refusal)
 
--- A request is carried out. `Answers` is what it may be answered over the held texts where nothing fails from outside.
--- Only a sink that fails leaves a part of an output.
+-- memory is wanting: before the first byte of output, or, in a request that may, after a text that it may then leave
+pub data Short {O : Type 0} (tells : O → Bool) (bytes : O → List ℕ) (Told Late : Type 0) (Leaves : List ℕ → Type 0) (old new : O) : Type 0 where
+  early : new ≡ old → Short tells bytes Told Late Leaves old new
+  late : Late → (Told → (text : List ℕ) × Leaves text × Wrote tells bytes old new text) → Short tells bytes Told Late Leaves old new
+
+-- A request is carried out. `Answers` is what it may be answered over the held texts where nothing fails from outside,
+-- `Late` that memory may be wanting after its first byte of output, and `Leaves` the text that then stands.
 pub record Carried {F O : Type 0} (held : F → List ℕ → Option (List ℕ)) (tells_held : F → Bool) (shelf_faults : F → ℕ) (tells : O → Bool) (bytes : O → List ℕ) (is_ended : O → Bool) (faults : O → ℕ)
-    (NoRequest : Type 0) (Answers : (List ℕ → Option (List ℕ)) → Result Output Refusal → Type 0) (shelf_old shelf_new : F) (old new : O) (result : Result Ending Fault) : Type 0 where
+    (NoRequest : Type 0) (Answers : (List ℕ → Option (List ℕ)) → Result Output Refusal → Type 0) (Late : Type 0) (Leaves : (List ℕ → Option (List ℕ)) → List ℕ → Type 0)
+    (shelf_old shelf_new : F) (old new : O) (result : Result Ending Fault) : Type 0 where
   pub kept : Kept held tells_held shelf_faults shelf_old shelf_new
   pub later : faults old ≤ faults new
   pub ended : OnOk result (is_ended new ≡ true)
@@ -54,4 +68,4 @@ pub record Carried {F O : Type 0} (held : F → List ℕ → Option (List ℕ)) 
   pub done : IfOk result (Finished tells bytes (IsTrue (tells_held shelf_old)) (Answers (held shelf_old)) old new)
   pub fault : IfErr result (Why ((new ≡ old) × NoRequest) ((new ≡ old) × Rose (shelf_faults shelf_old) (shelf_faults shelf_new))
       (Rose (faults old) (faults new) × Begun tells bytes (IsTrue (tells_held shelf_old)) (Answers (held shelf_old)) old new)
-      (new ≡ old) (Refuses (IsTrue (tells_held shelf_old)) (Answers (held shelf_old)) old new))
+      (Short tells bytes (IsTrue (tells_held shelf_old)) Late (Leaves (held shelf_old)) old new) (Refuses (IsTrue (tells_held shelf_old)) (Answers (held shelf_old)) old new))

@@ -15,12 +15,11 @@ is_done status.Done = true
 is_done status.NotLegal = true
 is_done _ = false
 
--- the request ends before its first byte of output
+-- the request ends before its first byte of output; for want of memory it may end later
 abbrev pub is_early : Status → Bool
 is_early status.Refused = true
 is_early status.Usage = true
 is_early status.ReadFailed = true
-is_early status.Memory = true
 is_early status.Limit = true
 is_early _ = false
 

@@ -1,4 +1,4 @@
--- The stages from a hierarchical text to the deck that is written out.
+-- The stages from a deck, and from a hierarchical text, to the deck that is written out.
 use Rattle.std.specs.Prelude.{◌≡◌, ℕ, ◌-◌, ◌<◌, ◌≤◌, ◌⊎◌, List, Result, Ok, Err, length, replicate}
 use Rattle.sc_count.specs.Counting.{counts_in}
 use Rattle.sc_count.specs.Limits.{IsTooLarge, IsWithin}
@@ -41,11 +41,16 @@ abbrev pub IsSized : ℕ → List Module → Result (List Module) Refusal → Ty
 IsSized limit modules (Ok deck) = (¬ (ManyWires (fresh_in (whole modules)))) × (length (gates_in (whole modules)) ≤ limit) × (deck ≡ modules)
 IsSized limit modules (Err refusal) = IsOversized limit modules refusal
 
+-- the deck, where its flat text is within every limit
+abbrev pub IsWritable : ℕ → List Module → Result (List Module) Refusal → Type 0
+IsWritable limit modules = Then (IsCounted modules) (λ counted. IsSized limit modules)
+
 -- the deck of a text whose flat text is to be written, of at most so many gates
 abbrev pub IsExpansion : ℕ → List ℕ → Result (List Module) Refusal → Type 0
-IsExpansion limit text = Then (IsDeckOf text) (λ modules. Then (IsCounted modules) (λ counted. IsSized limit modules))
+IsExpansion limit text = Then (IsDeckOf text) (IsWritable limit)
 
--- a hierarchical text whose flat text is within every limit
-abbrev pub IsExpandable : ℕ → List ℕ → Type 0
-IsExpandable limit text =
-    (modules : List Module) × IsHierText text modules × IsWithin (whole_counts modules) × (¬ (ManyWires (fresh_in (whole modules)))) × (length (gates_in (whole modules)) ≤ limit)
+-- a deck whose flat text is within every limit
+pub record FitsFlat (limit : ℕ) (modules : List Module) : Type 0 where
+  pub counts : IsWithin (whole_counts modules)
+  pub wires : ¬ (ManyWires (fresh_in (whole modules)))
+  pub gates : length (gates_in (whole modules)) ≤ limit

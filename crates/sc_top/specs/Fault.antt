@@ -9,6 +9,8 @@ use Rattle.sc_count.specs.declared.tally.TallyFault.{TallyFault}
 use Rattle.sc_count.specs.declared.tally.TallyFault.TheVariants as counting
 use Rattle.sc_flat.specs.declared.preparing.PrepFault.{PrepFault}
 use Rattle.sc_flat.specs.declared.preparing.PrepFault.TheVariants as sizing
+use Rattle.sc_meaning.specs.declared.fault.ElabFault.{ElabFault}
+use Rattle.sc_meaning.specs.declared.fault.ElabFault.TheVariants as running
 use Rattle.sc_read.specs.declared.flat.FlatFault.{FlatFault}
 use Rattle.sc_read.specs.declared.flat.FlatFault.TheVariants as listing
 use Rattle.sc_read.specs.declared.hier.HierFault.{HierFault}
@@ -70,6 +72,20 @@ type_refusal (typing.MeasuredUse place) = Some (placed reason.MeasuredUse place)
 type_refusal (typing.BadWidth place) = Some (placed reason.BadWidth place)
 type_refusal typing.NoMain = Some (plain reason.NoMain)
 type_refusal typing.Memory = None
+
+-- a source whose run is refused for this reason
+abbrev pub elab_refusal : ElabFault → Option Refusal
+elab_refusal (running.Overflow place) = Some (placed reason.Overflow place)
+elab_refusal (running.DivZero place) = Some (placed reason.DivZero place)
+elab_refusal (running.OutOfRange place) = Some (placed reason.OutOfRange place)
+elab_refusal (running.BadSize place) = Some (placed reason.BadSize place)
+elab_refusal (running.BadLength place) = Some (placed reason.BadLength place)
+elab_refusal (running.Repeated place) = Some (placed reason.Repeated place)
+elab_refusal (running.TooWide place) = Some (placed reason.TooWide place)
+elab_refusal (running.TooLong place) = Some (placed reason.TooLong place)
+elab_refusal running.TooDeep = Some (plain reason.TooDeep)
+elab_refusal running.TooManyInstances = Some (plain reason.TooManyInstances)
+elab_refusal running.Memory = None
 
 -- a flat text that is not read for this reason
 abbrev pub flat_refusal : FlatFault → Option Refusal
@@ -150,6 +166,12 @@ reason_name reason.WrongCount = codes "WrongCount"
 reason_name reason.MeasuredUse = codes "MeasuredUse"
 reason_name reason.BadWidth = codes "BadWidth"
 reason_name reason.NoMain = codes "NoMain"
+reason_name reason.Overflow = codes "Overflow"
+reason_name reason.DivZero = codes "DivZero"
+reason_name reason.OutOfRange = codes "OutOfRange"
+reason_name reason.BadSize = codes "BadSize"
+reason_name reason.BadLength = codes "BadLength"
+reason_name reason.Repeated = codes "Repeated"
 reason_name reason.Unbuilt = codes "Unbuilt"
 reason_name reason.BadQasm = codes "BadQasm"
 reason_name reason.BadSchedule = codes "BadSchedule"

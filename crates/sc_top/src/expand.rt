@@ -1,45 +1,22 @@
 //! The request for the flat text of a hierarchical text.
-ghost use Rattle.std.specs.Prelude.{◌≡◌, ◌≤◌, false, length, IfOk};
+ghost use Rattle.std.specs.Prelude.{◌≡◌, ◌≤◌, [], false, length, IfOk};
 ghost use Rattle.sc_base.specs.Limits.{most_text_bytes};
 ghost use Rattle.sc_deck.specs.Decks.{IsWhole};
 ghost use Rattle.sc_deck.specs.Events.{flat};
 ghost use Rattle.sc_top.specs.Answers.{ExpansionOf, CarriedOut};
 ghost use Rattle.sc_top.specs.Carried.{Took, Prints};
-ghost use Rattle.sc_top.specs.Expansions.{whole, IsDeckOf, IsCounted, IsSized, IsExpansion};
-ghost use Rattle.sc_top.specs.Stages.{Found, Then};
+ghost use Rattle.sc_top.specs.Expansions.{whole, IsDeckOf, IsExpansion};
+ghost use Rattle.sc_top.specs.Stages.{Found};
 ghost use Rattle.sc_top.specs.declared.request.Request.TheVariants as requests;
 
-use crate::fault::{Fault, count_fault, hier_fault, size_fault};
+use crate::expansion::{Expansion, sized};
+use crate::fault::{Fault, hier_fault};
 use crate::read::read_text;
 use crate::status::Ending;
 use sc_base::{MOST_TEXT_BYTES, Shelf, Sink, WriteFault};
-use sc_count::tally_deck;
 use sc_deck::Deck;
-use sc_flat::{Expander, prepare};
-use sc_gate::Times;
 use sc_read::read_hier;
 use std::alloc::Global;
-use std::marker::Model;
-
-/// A whole deck whose flat text fits, with what writes it. Contracts see the deck.
-#[derive(Drop)]
-struct Expansion {
-    deck: Deck,
-    expander: Expander,
-}
-
-impl Model for Expansion {
-    ghost use Rattle.std.specs.Prelude.{List};
-    ghost use Rattle.sc_deck.specs.Decks.{IsWhole};
-    ghost use Rattle.sc_deck.specs.Modules.{Module};
-    ghost use Rattle.sc_flat.specs.Shown.{FitsDeck};
-
-    ghost Value = { List Module };
-
-    ghost view = { λ e. e.deck };
-
-    ghost invariant = { λ e. IsWhole e.deck × FitsDeck e.expander e.deck };
-}
 
 /// Writes the flat text of the deck of the hierarchical text under a name, of at most `limit` gates, and ends the sink.
 pub(crate) fn carry_expand<F: Shelf, O: Sink>(
@@ -50,7 +27,7 @@ pub(crate) fn carry_expand<F: Shelf, O: Sink>(
     out: &mut O,
 ) -> Result<Ending, Fault>
     requires { O.is_ended out.old ≡ false }
-    ensures { CarriedOut F.held F.tells_held F.faults O.tells O.bytes O.is_ended O.faults (requests.Expand file.now limit) shelf.old shelf.new out.old out.new result }
+    ensures { CarriedOut F.held F.tells_held F.faults O.tells O.bytes O.is_ended O.faults [] (requests.Expand file.now limit) shelf.old shelf.new out.old out.new result }
 {
     let mut expansion = expansion_of(alloc, file, limit, shelf)?;
     match print(&mut expansion, out) {
@@ -89,21 +66,6 @@ fn read_deck(alloc: Global, text: &[u8]) -> Result<Deck, Fault>
     match read_hier(alloc, text) {
         Ok(deck) => Ok(deck),
         Err(fault) => Err(hier_fault(fault)),
-    }
-}
-
-/// The deck with what writes its flat text, where that is not too large.
-fn sized(alloc: Global, deck: Deck, limit: u64) -> Result<Expansion, Fault>
-    requires { IsWhole deck }
-    ensures { Found (Then (IsCounted deck) (λ counted. IsSized limit deck)) result }
-{
-    let tally = match tally_deck(alloc, &deck, &Times::ones()) {
-        Ok(tally) => tally,
-        Err(fault) => return Err(count_fault(fault)),
-    };
-    match prepare(alloc, &deck, &tally, limit) {
-        Ok(expander) => Ok(Expansion { deck, expander }),
-        Err(fault) => Err(size_fault(fault)),
     }
 }
 

@@ -1,12 +1,13 @@
 //! Why a request ends with a fault.
 ghost use Rattle.std.specs.Prelude.{◌≡◌, ◌≤◌, ◌++◌, length, ◌+◌};
-ghost use Rattle.sc_top.specs.Fault.{status_of, fault_line, fault_text, reason_name, place_text, at_text, behind_text, weight_of, weight_status, token_refusal, grammar_refusal, type_refusal, flat_refusal, plan_refusal, hier_refusal, count_refusal, size_refusal};
+ghost use Rattle.sc_top.specs.Fault.{status_of, fault_line, fault_text, reason_name, place_text, at_text, behind_text, weight_of, weight_status, token_refusal, grammar_refusal, type_refusal, elab_refusal, flat_refusal, plan_refusal, hier_refusal, count_refusal, size_refusal};
 ghost use Rattle.sc_top.specs.Stages.{fault_of_refusal};
 
 use crate::status::Status;
 use sc_base::{LineBuffer, Place};
 use sc_check::SchedReadFault;
 use sc_count::TallyFault;
+use sc_elab::ElabFault;
 use sc_flat::PrepFault;
 use sc_parse::ParseFault;
 use sc_read::{FlatFault, HierFault};
@@ -57,6 +58,12 @@ pub enum Reason {
     MeasuredUse,
     BadWidth,
     NoMain,
+    Overflow,
+    DivZero,
+    OutOfRange,
+    BadSize,
+    BadLength,
+    Repeated,
     Unbuilt,
     BadQasm,
     BadSchedule,
@@ -158,6 +165,25 @@ pub(crate) fn typing_fault(fault: TypeFault) -> Fault
     }
 }
 
+/// The fault of a request over a source whose run is refused for this reason.
+pub(crate) fn elab_fault(fault: ElabFault) -> Fault
+    ensures { result ≡ fault_of_refusal (elab_refusal fault) }
+{
+    match fault {
+        ElabFault::Overflow(place) => at_place(Reason::Overflow, place),
+        ElabFault::DivZero(place) => at_place(Reason::DivZero, place),
+        ElabFault::OutOfRange(place) => at_place(Reason::OutOfRange, place),
+        ElabFault::BadSize(place) => at_place(Reason::BadSize, place),
+        ElabFault::BadLength(place) => at_place(Reason::BadLength, place),
+        ElabFault::Repeated(place) => at_place(Reason::Repeated, place),
+        ElabFault::TooWide(place) => at_place(Reason::TooWide, place),
+        ElabFault::TooLong(place) => at_place(Reason::TooLong, place),
+        ElabFault::TooDeep => plainly(Reason::TooDeep),
+        ElabFault::TooManyInstances => plainly(Reason::TooManyInstances),
+        ElabFault::Memory => Fault::Memory,
+    }
+}
+
 /// The fault of a request over a flat text that is not read for this reason.
 pub(crate) fn flat_fault(fault: FlatFault) -> Fault
     ensures { result ≡ fault_of_refusal (flat_refusal fault) }
@@ -255,6 +281,12 @@ impl Reason {
             Reason::MeasuredUse => b"MeasuredUse",
             Reason::BadWidth => b"BadWidth",
             Reason::NoMain => b"NoMain",
+            Reason::Overflow => b"Overflow",
+            Reason::DivZero => b"DivZero",
+            Reason::OutOfRange => b"OutOfRange",
+            Reason::BadSize => b"BadSize",
+            Reason::BadLength => b"BadLength",
+            Reason::Repeated => b"Repeated",
             Reason::Unbuilt => b"Unbuilt",
             Reason::BadQasm => b"BadQasm",
             Reason::BadSchedule => b"BadSchedule",

@@ -1,51 +1,101 @@
 //! The request for a flat text.
-ghost use Rattle.std.specs.Prelude.{◌≡◌, false};
-ghost use Rattle.sc_gate.specs.Lines.{flat_text};
+ghost use Rattle.std.specs.Prelude.{◌≡◌, ◌++◌, [], false, map, flat_map};
+ghost use Rattle.sc_deck.specs.Events.{flat, gates_in};
+ghost use Rattle.sc_probe.specs.Rules.{state_text};
 ghost use Rattle.sc_top.specs.Answers.{FlatOf, CarriedOut};
-ghost use Rattle.sc_top.specs.Carried.{Took, Prints};
+ghost use Rattle.sc_top.specs.Carried.{Took, PrintsLate};
+ghost use Rattle.sc_top.specs.Expansions.{whole};
+ghost use Rattle.sc_top.specs.Watching.{watchers, probe_lines, comment_line, AreSome};
 ghost use Rattle.sc_top.specs.declared.request.Request.TheVariants as requests;
 
-use crate::circuit::{Circuit, build_circuit};
+use crate::expansion::{Expansion, sized};
 use crate::fault::Fault;
-use crate::read::read_text;
+use crate::source::source_of;
 use crate::status::Ending;
-use sc_base::{MOST_SOURCE_BYTES, Shelf, Sink, WriteFault};
-use sc_gate::write_flat;
+use crate::watch::{Asked, print_lines};
+use sc_base::{Shelf, Sink};
+use sc_elab::Choice;
+use sc_probe::{Probe, report_all};
 use std::alloc::Global;
 
-/// Writes the flat text of the source under a name, and ends the sink.
+/// Writes the flat text of the source under a name, of at most `limit` gates, and the lines of the probes whose rules are asked for,
+/// and ends the sink. These probes are shown every gate, and the others are dropped before.
 pub(crate) fn carry_flat<F: Shelf, O: Sink>(
     alloc: Global,
     file: &[u8],
+    choice: Choice,
+    limit: u64,
+    asked: Asked,
+    probes: Vec<Box<dyn Probe>>,
     shelf: &mut F,
     out: &mut O,
 ) -> Result<Ending, Fault>
     requires { O.is_ended out.old ≡ false }
-    ensures { CarriedOut F.held F.tells_held F.faults O.tells O.bytes O.is_ended O.faults (requests.Flat file.now) shelf.old shelf.new out.old out.new result }
+    ensures { CarriedOut F.held F.tells_held F.faults O.tells O.bytes O.is_ended O.faults (watchers rule state probes.items)
+        (requests.Flat file.now choice limit asked.kinds asked.burst asked.window asked.reach) shelf.old shelf.new out.old out.new result }
 {
-    let circuit = flat_of(alloc, file, shelf)?;
-    match print(&circuit, out) {
+    let mut probes = probes;
+    asked.keep(&mut probes);
+    let mut expansion = flat_of(alloc, file, choice, limit, shelf)?;
+    match print(alloc, &mut expansion, probes.as_mut_slice(), out) {
         Ok(()) => Ok(Ending::Done),
+        Err(fault) => Err(fault),
+    }
+}
+
+/// The deck of the source under a name, where its flat text is not too large and has at most `limit` gates.
+fn flat_of<F: Shelf>(
+    alloc: Global,
+    file: &[u8],
+    choice: Choice,
+    limit: u64,
+    shelf: &mut F,
+) -> Result<Expansion, Fault>
+    ensures { Took F.held F.tells_held F.faults (λ held. FlatOf held file.now choice limit) shelf.old shelf.new result }
+{
+    let deck = source_of(alloc, file, choice, shelf)?;
+    sized(alloc, deck, limit)
+}
+
+/// Writes the flat text, shows the probes each gate, writes their lines, and ends the sink. The flat text takes no memory.
+fn print<O: Sink>(
+    alloc: Global,
+    expansion: &mut Expansion,
+    probes: &mut [Box<dyn Probe>],
+    out: &mut O,
+) -> Result<(), Fault>
+    requires { O.is_ended out.old ≡ false }
+    ensures { let text = flat (whole expansion.old) in let all = watchers rule state probes.old in
+        PrintsLate O.tells O.bytes O.is_ended O.faults (AreSome all) out.old out.new text (text ++ probe_lines (gates_in (whole expansion.old)) all) result }
+{
+    match expansion.expander.write(&expansion.deck, out, probes) {
+        Ok(()) => print_reports(alloc, probes, out),
         Err(_) => Err(Fault::WriteFault),
     }
 }
 
-/// The circuit of the source under a name.
-fn flat_of<F: Shelf>(alloc: Global, file: &[u8], shelf: &mut F) -> Result<Circuit, Fault>
-    ensures { Took F.held F.tells_held F.faults (λ held. FlatOf held file.now) shelf.old shelf.new result }
-{
-    let text = read_text(alloc, file, MOST_SOURCE_BYTES as u64, shelf)?;
-    build_circuit(alloc, text.as_bytes())
-}
-
-/// Writes the flat text of a circuit, and ends the sink. Takes no memory.
-fn print<O: Sink>(circuit: &Circuit, out: &mut O) -> Result<(), WriteFault>
+/// Writes what the probes tell, each on a line, and ends the sink. Takes no memory where there is none.
+fn print_reports<O: Sink>(
+    alloc: Global,
+    probes: &[Box<dyn Probe>],
+    out: &mut O,
+) -> Result<(), Fault>
     requires { O.is_ended out.old ≡ false }
-    ensures { Prints O.tells O.bytes O.is_ended O.faults out.old out.new (flat_text circuit.now.qubits 0 circuit.now.gates) result }
+    ensures { PrintsLate O.tells O.bytes O.is_ended O.faults (AreSome (watchers rule state probes.now)) out.old out.new []
+        (flat_map comment_line (map (λ p. state_text (rule p) (state p)) probes.now)) result }
 {
-    write_flat(u128::from(circuit.qubits), 0, circuit.gates.as_slice(), out)?;
-    match out.finish() {
+    if probes.is_empty() {
+        return match out.finish() {
+            Ok(()) => Ok(()),
+            Err(_) => Err(Fault::WriteFault),
+        };
+    }
+    let texts = match report_all(alloc, probes) {
+        Ok(texts) => texts,
+        Err(_) => return Err(Fault::Memory),
+    };
+    match print_lines(texts.as_slice(), out) {
         Ok(()) => Ok(()),
-        Err(_) => Err(WriteFault),
+        Err(_) => Err(Fault::WriteFault),
     }
 }

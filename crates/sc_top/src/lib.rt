@@ -1,18 +1,14 @@
 //! The command.
 #![tactic(auto)]
 
-mod array;
-mod arrays;
-mod circuit;
 mod drill;
 mod expand;
+mod expansion;
 mod fault;
 mod flat;
-mod form;
+mod hier;
 mod listed;
 mod lowered;
-mod maker;
-mod parts;
 mod read;
 mod reopened;
 mod report;
@@ -20,9 +16,11 @@ mod request;
 mod run_all;
 mod scheduled;
 mod shortened;
+mod source;
 mod status;
 mod tallied;
 mod verdict;
+mod watch;
 
 pub use drill::drill_source;
 pub use fault::{At, Fault, Reason, Refusal};

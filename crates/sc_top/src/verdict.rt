@@ -27,7 +27,7 @@ pub(crate) fn carry_check<F: Shelf, O: Sink>(
     out: &mut O,
 ) -> Result<Ending, Fault>
     requires { O.is_ended out.old ≡ false }
-    ensures { CarriedOut F.held F.tells_held F.faults O.tells O.bytes O.is_ended O.faults (requests.Check list.now schedule.now) shelf.old shelf.new out.old out.new result }
+    ensures { CarriedOut F.held F.tells_held F.faults O.tells O.bytes O.is_ended O.faults [] (requests.Check list.now schedule.now) shelf.old shelf.new out.old out.new result }
 {
     let found = verdict_of(alloc, list, schedule, shelf)?;
     match print(found, out) {

@@ -4,7 +4,7 @@ use Rattle.sc_count.specs.declared.tally.TallyFault.{TallyFault}
 use Rattle.sc_flat.specs.Shown.{Prepared}
 use Rattle.sc_flat.specs.declared.preparing.PrepFault.{PrepFault}
 use Rattle.sc_top.proofs.ExpansionLemmas.{count_why, size_why, sized_fits}
-use Rattle.sc_top.proofs.expand.sized.Goals as goal
+use Rattle.sc_top.proofs.expansion.sized.Goals as goal
 
 abbrev no_tally : TallyFault → Result Tally TallyFault
 no_tally fault = Err fault
