@@ -1,18 +1,8 @@
-mod BodyLemmas
 mod CarryLemmas
-mod CircuitLemmas
+mod DrillParts
 mod ExpansionLemmas
 mod FewGates
-mod FirstForm
-pub mod FirstGood
-mod FirstParts
-mod FirstPieces
-mod FirstTyped
 mod InOrder
-mod MakerLemmas
-mod Nests
 pub mod OneAnswer
-pub mod OneCircuit
-mod PartLemmas
 mod RunLemmas
 mod StageLemmas

@@ -1,40 +1,32 @@
 -- The stage from a deck to its list without the pairs of gates that undo each other, as it is written.
-use Rattle.std.specs.Prelude.{ℕ, List, ◌++◌, Result, Ok, codes, flat_map, map, replicate}
+use Rattle.std.specs.Prelude.{ℕ, List, ◌++◌, Result, Ok, flat_map, replicate}
 use Rattle.sc_cancel.specs.Cancelling.{shorter, gates_at}
 use Rattle.sc_deck.specs.Modules.{Module}
 use Rattle.sc_gate.specs.Lines.{flat_text}
 use Rattle.sc_gate.specs.declared.gate.Gate.{Gate}
-use Rattle.sc_probe.specs.Rules.{folded, state_text}
-use Rattle.sc_probe.specs.declared.rule.Rule.{Rule}
 use Rattle.sc_read.specs.declared.flat.FlatText.{FlatText}
 use Rattle.sc_top.specs.Listed.{IsListed}
 use Rattle.sc_top.specs.Stages.{Then, Is}
+use Rattle.sc_top.specs.Watching.{Watcher, comment_line, probe_lines}
 use Rattle.sc_top.specs.declared.fault.Refusal.{Refusal}
 
--- a report on a line that is a comment
-abbrev pub report_line : List ℕ → List ℕ
-report_line report = codes "# " ++ report ++ codes "\n"
+-- the gates that stay when the pairs that undo each other are taken out
+abbrev pub kept_gates : List Gate → List Gate
+kept_gates gates = gates_at gates (shorter gates)
 
--- the reports, each on its line
-abbrev pub report_lines : List (List ℕ) → List ℕ
-report_lines reports = flat_map report_line reports
+-- THE TEXT of a list without these pairs: the flat text of the gates that stay, with the numbers of wires of the whole list, and behind
+-- it the lines of these probes
+abbrev pub shortened_text : List Watcher → FlatText → List ℕ
+shortened_text all list = flat_text list.qubits list.cbits (kept_gates list.gates) ++ probe_lines (kept_gates list.gates) all
 
--- what a probe of this rule and state reports once it has seen the gates
-abbrev pub report_on : List Gate → Rule × List ℕ → List ℕ
-report_on gates probe = state_text probe.0 (folded probe.0 probe.1 gates)
-
--- the flat text of the gates of a list at these positions, with the numbers of wires of the whole list, and then the reports
+-- the same, from the positions of the gates and what the probes tell
 abbrev pub kept_text : FlatText → List ℕ → List (List ℕ) → List ℕ
-kept_text list kept reports = flat_text list.qubits list.cbits (gates_at list.gates kept) ++ report_lines reports
+kept_text list kept told = flat_text list.qubits list.cbits (gates_at list.gates kept) ++ flat_map comment_line told
 
--- THE TEXT of a list without the pairs that undo each other, with what probes of these rules and states report of the gates that stay
-abbrev pub shortened_text : List (Rule × List ℕ) → FlatText → List ℕ
-shortened_text probes list = kept_text list (shorter list.gates) (map (report_on (gates_at list.gates (shorter list.gates))) probes)
-
--- the durations of gates, where no request names others
+-- the durations of gates where a request names none
 abbrev pub ones : List ℕ
 ones = replicate 18 1
 
--- the text for a deck
-abbrev pub IsShortened : List (Rule × List ℕ) → List Module → Result (List ℕ) Refusal → Type 0
-IsShortened probes modules = Then (IsListed ones modules) (λ list. Is (Ok (shortened_text probes list)))
+-- the text of a deck
+abbrev pub IsShortened : List Watcher → List Module → Result (List ℕ) Refusal → Type 0
+IsShortened all modules = Then (IsListed ones modules) (λ list. Is (Ok (shortened_text all list)))

@@ -4,7 +4,7 @@ use Rattle.sc_top.proofs.DrillParts.{for_each, next_line, last_line}
 use Rattle.sc_top.proofs.drill.push_calls.Goals as goal
 
 pub loop-i-preserved : goal.loop-i-preserved
-loop-i-preserved c = ?
+loop-i-preserved c = next_line call_line c.loop-i.text c.push_call.new.text (c.args.text.now ++ for_each call_line 1 (c.args.n + 1)) c.loop-i.i (c.args.n + 1) c.loop-i-test.true (c.in_ok-push_call.ensures) c.loop-i.invariant
 
 pub returns : goal.returns
-returns c = ?
+returns c = last_line call_line c.loop-i.text (c.args.text.now ++ for_each call_line 1 (c.args.n + 1)) c.loop-i.i (c.args.n + 1) c.loop-i-test.false c.loop-i.invariant

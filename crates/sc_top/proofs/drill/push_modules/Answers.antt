@@ -4,7 +4,7 @@ use Rattle.sc_top.proofs.DrillParts.{for_each, next_line, last_line}
 use Rattle.sc_top.proofs.drill.push_modules.Goals as goal
 
 pub loop-i-preserved : goal.loop-i-preserved
-loop-i-preserved c = ?
+loop-i-preserved c = next_line module_line c.loop-i.text c.push_module.new.text (c.args.text.now ++ for_each module_line 2 (c.args.n + 1)) c.loop-i.i (c.args.n + 1) c.loop-i-test.true (c.in_ok-push_module.ensures) c.loop-i.invariant
 
 pub returns : goal.returns
-returns c = ?
+returns c = last_line module_line c.loop-i.text (c.args.text.now ++ for_each module_line 2 (c.args.n + 1)) c.loop-i.i (c.args.n + 1) c.loop-i-test.false c.loop-i.invariant
