@@ -1,8 +1,12 @@
 mod CarryLemmas
+mod DeckPaths
 mod DrillParts
 mod ExpansionLemmas
 mod FewGates
 mod InOrder
+mod ListLemmas
+pub mod ModeLemmas
 pub mod OneAnswer
+mod OtherLemmas
 mod RunLemmas
 mod StageLemmas

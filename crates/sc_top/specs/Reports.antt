@@ -1,6 +1,7 @@
 -- What is told of a deck: its numbers, and their lines.
 use Rattle.std.specs.Prelude.{◌≡◌, ℕ, Bool, true, false, List, [], ◌++◌, map, length, codes, flat_map, slice_index}
 use Rattle.sc_base.specs.GateNames.{gate_text, place_of, all_names}
+use Rattle.sc_base.specs.declared.names.GateName.{GateName}
 use Rattle.sc_count.specs.Counting.{counts_in}
 use Rattle.sc_deck.specs.Events.{gates_in}
 use Rattle.sc_deck.specs.Modules.{Module}
@@ -27,9 +28,13 @@ abbrev pub weight_text : Bool → ℕ → List ℕ
 weight_text true weight = number_line (codes "weight") weight
 weight_text false weight = []
 
--- each gate name in their order, with the number of its gates
+-- a gate name with the number of its gates
+abbrev pub kind_text : List ℕ → GateName → List ℕ
+kind_text kinds name = number_line (gate_text name) (slice_index kinds (place_of name))
+
+-- all names in their order
 abbrev pub kinds_text : List ℕ → List ℕ
-kinds_text kinds = flat_map (λ name. number_line (gate_text name) (slice_index kinds (place_of name))) all_names
+kinds_text kinds = flat_map (kind_text kinds) all_names
 
 -- THE REPORT
 abbrev pub report_text : Bool → Summary → List ℕ

@@ -56,7 +56,7 @@ fn write_totals<O: Sink>(summary: &Summary, out: &mut O) -> Result<(), WriteFaul
     ensures prefix { WrotePrefix O.tells O.bytes out.old out.new (totals_text summary.now) }
     ensures cause { HasCause (O.faults out.old) (O.faults out.new) result }
 {
-    write_number_line(b"instances", u128::from(summary.instances), out)?;
+    write_number_line(b"instances", summary.instances as u128, out)?;
     write_number_line(b"qubits", summary.counts.qubits, out)?;
     write_number_line(b"cbits", summary.counts.cbits, out)?;
     write_number_line(b"peak", summary.counts.peak, out)?;
