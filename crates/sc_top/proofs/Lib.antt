@@ -1,6 +1,7 @@
 mod CarryLemmas
 mod DeckPaths
 mod DrillParts
+mod DrillSizes
 mod ExpansionLemmas
 mod FewGates
 mod InOrder

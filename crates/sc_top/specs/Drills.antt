@@ -23,8 +23,12 @@ abbrev pub drill_text : ℕ → List ℕ
 drill_text n =
     first_line ++ flat_map module_line (range_with_len 2 (n - 1)) ++ codes "int main() { qbit q[3];\n" ++ flat_map call_line (range_with_len 1 n) ++ codes "}\n"
 
--- THE SUMMARY of that source, by the numbers of its deck
-abbrev pub drill_summary : ℕ → Summary → List ℕ
-drill_summary n s =
-    number_line (codes "drill") n ++ number_line (codes "bytes") (length (drill_text n)) ++ number_line (codes "instances") s.instances
+-- the lines of a summary: the number, how many bytes its source has, and the numbers of its deck
+abbrev pub drill_lines : ℕ → ℕ → Summary → List ℕ
+drill_lines n bytes s =
+    number_line (codes "drill") n ++ number_line (codes "bytes") bytes ++ number_line (codes "instances") s.instances
     ++ number_line (codes "qubits") s.counts.qubits ++ number_line (codes "gates") s.counts.gates ++ number_line (codes "critical") s.critical
+
+-- THE SUMMARY of the source of a number
+abbrev pub drill_summary : ℕ → Summary → List ℕ
+drill_summary n s = drill_lines n (length (drill_text n)) s

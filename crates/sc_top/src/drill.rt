@@ -5,7 +5,7 @@ ghost use Rattle.sc_base.specs.Causes.{HasCause};
 ghost use Rattle.sc_base.specs.Limits.{most_source_bytes};
 ghost use Rattle.sc_base.specs.Output.{Wrote, WrotePrefix};
 ghost use Rattle.sc_top.specs.Carried.{Prints};
-ghost use Rattle.sc_top.specs.Drills.{module_line, call_line, drill_text, drill_summary};
+ghost use Rattle.sc_top.specs.Drills.{module_line, call_line, drill_text, drill_lines, drill_summary};
 
 use crate::report::Summary;
 use sc_base::{LineBuffer, Memory, Sink, Text, WriteFault};
@@ -100,18 +100,17 @@ pub(crate) fn print_drill<O: Sink>(
     }
 }
 
-/// Writes the summary. Takes no memory. At a fault of the sink a prefix of it is written.
+/// Writes the lines of a summary. Takes no memory. At a fault of the sink a prefix of it is written.
 fn write_drill<O: Sink>(
     n: u32,
     bytes: usize,
     summary: &Summary,
     out: &mut O,
 ) -> Result<(), WriteFault>
-    requires open { O.is_ended out.old ≡ false }
-    requires bytes { bytes ≡ length (drill_text n) }
+    requires { O.is_ended out.old ≡ false }
     ensures open { O.is_ended out.new ≡ false }
-    ensures appended { OnOk result (Wrote O.tells O.bytes out.old out.new (drill_summary n summary.now)) }
-    ensures prefix { WrotePrefix O.tells O.bytes out.old out.new (drill_summary n summary.now) }
+    ensures appended { OnOk result (Wrote O.tells O.bytes out.old out.new (drill_lines n bytes summary.now)) }
+    ensures prefix { WrotePrefix O.tells O.bytes out.old out.new (drill_lines n bytes summary.now) }
     ensures cause { HasCause (O.faults out.old) (O.faults out.new) result }
 {
     write_number_line(b"drill", u128::from(n), out)?;
