@@ -4,42 +4,48 @@ use Rattle.std.specs.Prelude.{All}
 use Rattle.sc_check.proofs.Breaches.{legal_from, legal_to}
 use Rattle.sc_check.specs.Finding.{finding}
 use Rattle.sc_deck.specs.Events.{flat}
-use Rattle.sc_gate.specs.Lines.{flat_text}
+use Rattle.sc_deck.specs.Hierarchical.{hier}
 use Rattle.sc_gate.specs.declared.gate.Gate.{Gate}
 use Rattle.sc_sched.specs.Text.{IsTextOf}
 use Rattle.sc_sched.specs.declared.plan.Plan.{Plan}
-use Rattle.sc_top.specs.Answers.{Says, OfRequest, AreInOrder, HaveOutputs, request, done}
-use Rattle.sc_top.specs.Circuits.{circuit_of}
+use Rattle.sc_top.specs.Answers.{Says, OfRequest, AreInOrder, HaveOutputs, request, done, watched, asked_in}
 use Rattle.sc_top.specs.Endings.{Output}
 use Rattle.sc_top.specs.Expansions.{whole}
+use Rattle.sc_top.specs.Sources.{modules_of}
 use Rattle.sc_top.specs.Stages.{goes}
 use Rattle.sc_top.specs.Verdicts.{VerdictsAreExact, judged}
+use Rattle.sc_top.specs.Watching.{Watcher}
 use Rattle.sc_top.specs.declared.request.Request.{Request}
-use Rattle.sc_top.specs.declared.request.Request.TheVariants.{Flat, Expand, Check}
-use Rattle.sc_top.proofs.CircuitLemmas.{first_circuit}
+use Rattle.sc_top.specs.declared.request.Request.TheVariants.{Hier, Flat, Expand, Check}
+use Rattle.sc_top.proofs.SourceLaws.{accepted_source, writable}
 
-has_output : (held : List ℕ → Option (List ℕ)) (job : Request) → AreInOrder held job → (output : Output) × Says held job (Ok output)
-has_output held (Flat file) here =
-    let (tokens, made, lexed, form) = here.so in (
-      done (flat_text made.qubits 0 made.gates),
-      goes (circuit_of made) _ (goes here.text _ (here.holds, here.within) (first_circuit here.text tokens made (circuit_of made) lexed form refl refl)) refl,
+has_output : (held : List ℕ → Option (List ℕ)) (all : List Watcher) (job : Request) → AreInOrder held job → (output : Output) × Says held all job (Ok output)
+has_output held all (Hier file choice) here =
+    let (t, accepted) = here.so in
+    (done (hier (modules_of t choice)), goes (modules_of t choice) _ (goes here.text _ (here.holds, here.within) (accepted_source here.text t choice accepted)) refl)
+has_output held all (Flat file choice limit kinds burst window reach) here =
+    let (t, accepted, fits) = here.so in
+    let modules = modules_of t choice in (
+      watched (asked_in (Flat file choice limit kinds burst window reach) all) modules,
+      goes modules _ (goes modules _ (goes here.text _ (here.holds, here.within) (accepted_source here.text t choice accepted)) (writable limit modules fits)) refl,
     )
-has_output held (Expand file limit) here =
-    let (modules, read, within, narrow, few) = here.so in
-    (done (flat (whole modules)), goes modules _ (goes here.text _ (here.holds, here.within) (goes modules _ read (goes tt _ within (narrow, few, refl)))) refl)
-has_output held (Check list schedule) here =
+has_output held all (Expand file limit) here =
+    let (modules, read, fits) = here.so in
+    (done (flat (whole modules)), goes modules _ (goes here.text _ (here.holds, here.within) (goes modules _ read (writable limit modules fits))) refl)
+has_output held all (Check list schedule) here =
     let (gates, read, there) = here.so in
     let (plan, is) = there.so in (
       judged (finding gates.gates plan),
       goes (finding gates.gates plan) _ (goes here.text _ (here.holds, here.within) (goes there.text _ (there.holds, there.within) (goes gates _ read (goes plan _ is refl)))) refl,
     )
+has_output held all job here = absurd here
 
-of_output : (held : List ℕ → Option (List ℕ)) (found : Option Request) → OfRequest (AreInOrder held) found → (output : Output) × OfRequest (λ job. Says held job (Ok output)) found
-of_output held None order = absurd order
-of_output held (Some job) order = has_output held job order
+of_output : (held : List ℕ → Option (List ℕ)) (all : List Watcher) (found : Option Request) → OfRequest (AreInOrder held) found → (output : Output) × OfRequest (λ job. Says held all job (Ok output)) found
+of_output held all None order = absurd order
+of_output held all (Some job) order = has_output held all job order
 
 pub have_outputs : HaveOutputs
-have_outputs held words order = of_output held (request words) order
+have_outputs held all words order = of_output held all (request words) order
 
 in_range : (text : List ℕ) (gates : List Gate) (plan : Plan) → IsTextOf (length gates) text plan → All (λ step. All (λ region. All (λ x. x < length gates) region) step) plan.steps
 in_range text gates plan read =

@@ -10,4 +10,6 @@ pub mod ModeLemmas
 pub mod OneAnswer
 mod OtherLemmas
 mod RunLemmas
+mod SourceLaws
 mod StageLemmas
+mod WatchLemmas

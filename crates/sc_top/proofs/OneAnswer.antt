@@ -8,6 +8,14 @@ use Rattle.sc_check.specs.declared.text_reader.SchedReadFault.TheVariants as pla
 use Rattle.sc_count.specs.Limits.{IsTooLarge, IsWithin}
 use Rattle.sc_count.specs.declared.counts.Counts.{Counts}
 use Rattle.sc_deck.specs.Modules.{Module}
+use Rattle.sc_meaning.proofs.OneProgram.{is_one_program}
+use Rattle.sc_meaning.specs.declared.choice.Choice.{Choice}
+use Rattle.sc_meaning.specs.Definitions.{Program}
+use Rattle.sc_meaning.specs.Instances.{refusal_of, instances_of}
+use Rattle.sc_meaning.specs.Meaning.{refusal}
+use Rattle.sc_meaning.specs.Outcomes.{events_of}
+use Rattle.sc_meaning.specs.Programs.{program_of}
+use Rattle.sc_meaning.specs.Run.{run_program}
 use Rattle.sc_parse.proofs.OneFault.{one_fault}
 use Rattle.sc_parse.proofs.OneTree.{one_tree}
 use Rattle.sc_read.proofs.FlatBody.{one_flat_text, no_bad_flat_line, not_too_many_gates, bad_or_too_many, one_bad_flat_line}
@@ -21,27 +29,27 @@ use Rattle.sc_read.specs.declared.hier.HierFault.TheVariants as reading
 use Rattle.sc_sched.specs.Text.{IsTextOf}
 use Rattle.sc_syntax.proofs.Once.{no_tokens}
 use Rattle.sc_syntax.proofs.SameTokens.{same_tokens, same_fault}
-use Rattle.sc_syntax.specs.Alike.{Alike}
+use Rattle.sc_syntax.specs.Alike.{Alike, pure_source}
 use Rattle.sc_syntax.specs.Lexing.{IsLexed, HasFault}
 use Rattle.sc_syntax.specs.declared.Source.{Source}
 use Rattle.sc_syntax.specs.declared.Token.{Token}
 use Rattle.sc_types.proofs.OneFault.{one_fault as one_type_fault}
 use Rattle.sc_types.specs.Sources.{fault_of}
-use Rattle.sc_types.specs.Typing.{IsWellTyped}
-use Rattle.sc_top.specs.Answers.{IsText, Says, OfRequest, request, HasOneAnswer}
-use Rattle.sc_top.specs.Circuits.{IsTokens, IsTree, IsTyped, IsFirst, IsCircuit, circuit_of}
+use Rattle.sc_types.specs.Typing.{TypedSource}
+use Rattle.sc_top.specs.Answers.{IsText, SourceOf, Says, OfRequest, request, HasOneAnswer}
 use Rattle.sc_top.specs.Endings.{Output}
-use Rattle.sc_top.specs.Expansions.{IsDeckOf, IsCounted, IsOversized, IsSized, IsExpansion, whole_counts}
-use Rattle.sc_top.specs.Fault.{token_refusal, grammar_refusal, type_refusal, flat_refusal, plan_refusal, hier_refusal}
-use Rattle.sc_top.specs.Stages.{HasOne, HasOneLike}
+use Rattle.sc_top.specs.Expansions.{IsDeckOf, IsCounted, IsOversized, IsSized, IsWritable, IsExpansion, whole_counts}
+use Rattle.sc_top.specs.Fault.{token_refusal, grammar_refusal, type_refusal, elab_refusal, flat_refusal, plan_refusal, hier_refusal}
+use Rattle.sc_top.specs.Sources.{IsTokens, IsTree, IsTyped, IsElaborated, IsSource}
+use Rattle.sc_top.specs.Stages.{Then, stops, goes, HasOne, HasOneLike}
 use Rattle.sc_top.specs.Verdicts.{IsList, IsPlan, IsVerdict}
-use Rattle.sc_top.specs.declared.circuit.Circuit.{Circuit}
+use Rattle.sc_top.specs.Watching.{Watcher}
 use Rattle.sc_top.specs.declared.fault.Refusal.{Refusal}
 use Rattle.sc_top.specs.declared.request.Request.{Request}
-use Rattle.sc_top.specs.declared.request.Request.TheVariants.{Flat, Expand, Check}
+use Rattle.sc_top.specs.declared.request.Request.TheVariants.{Hier, Flat, Expand, Check}
 use Rattle.sc_top.proofs.FewGates.{few_gates}
-use Rattle.sc_top.proofs.OneCircuit.{one_circuit}
-use Rattle.sc_top.proofs.StageLemmas.{same_some, gives_one, known_fault, then_one_like, then_one, then_from, is_one}
+use Rattle.sc_top.proofs.SourceLaws.{modules_alike}
+use Rattle.sc_top.proofs.StageLemmas.{same_some, gives_one, known_fault, then_one_like, then_one, is_one}
 
 abbrev given : (A : Type 0) → A → Result A Refusal
 given A a = Ok a
@@ -64,6 +72,9 @@ one_text held most file (Err r) (Err s) (text, holds, past, is) (other, also, mo
 
 -- ---- a source
 
+one_refusal : (t u : TypedSource) → program_of t ≡ program_of u → refusal t ≡ refusal u
+one_refusal t u same = ap (λ (p : Program). refusal_of (run_program p)) same
+
 one_tokens : (text : List ℕ) → HasOne (IsTokens text)
 one_tokens text =
     gives_one (IsLexed text) (HasFault text) token_refusal (λ a b. same_tokens) (λ tokens mistake r is lexed has. no_tokens text mistake tokens has lexed) (λ m n r s is was. same_fault)
@@ -75,25 +86,31 @@ tree_like text tokens = record {
   alike = λ a b (accepted, derives) (also, other). one_tree text tokens a b derives other;
 }
 
-typed_alike : (a b : Source) → Alike a b → (r : Result (Unit {0}) Refusal) → IsTyped a r → IsTyped b r
-typed_alike a b alike (Ok typed) none = sym (one_type_fault a b alike) ∙ none
-typed_alike a b alike (Err r) (mistake, first, is) = (mistake, sym (one_type_fault a b alike) ∙ first, is)
+-- one program has one refusal, and one deck
+elab_alike : (choice : Choice) (t u : TypedSource) → program_of t ≡ program_of u → (r s : Result (List Module) Refusal) → IsElaborated choice t r → IsElaborated choice u s → r ≡ s
+elab_alike choice t u same (Ok a) (Ok b) (runs, is) (also, was) =
+    ap (given (List Module)) (is ∙ modules_alike t u choice (ap (λ (p : Program). instances_of choice (events_of (run_program p))) same) ∙ sym was)
+elab_alike choice t u same (Ok a) (Err s) (runs, is) (fault, there, was) = absurd (not_none there (sym (one_refusal t u same) ∙ runs))
+elab_alike choice t u same (Err r) (Ok b) (fault, here, is) (also, was) = absurd (not_none here (one_refusal t u same ∙ also))
+elab_alike choice t u same (Err r) (Err s) (fault, here, is) (other, there, was) =
+    ap (refused (List Module)) (same_mistake elab_refusal (same_some here (one_refusal t u same ∙ there)) is was)
 
-one_typed : (tree : Source) → HasOne (IsTyped tree)
-one_typed tree =
-    gives_one (λ (typed : Unit {0}). IsWellTyped tree) (λ mistake. fault_of tree ≡ Some mistake) type_refusal (λ a b none also. refl) (λ typed mistake r is none first. not_none first none)
-    (λ m n r s is was. same_some)
+-- alike trees have one fault, or one program
+tree_alike : (choice : Choice) (a b : Source) → Alike a b → (r s : Result (List Module) Refusal) → Then (IsTyped a) (IsElaborated choice) r → Then (IsTyped b) (IsElaborated choice) s → r ≡ s
+tree_alike choice a b alike _ _ (stops f (m, here, is)) (stops g (n, there, was)) =
+    ap (refused (List Module)) (same_mistake type_refusal (same_some here (one_type_fault a b alike ∙ there)) is was)
+tree_alike choice a b alike _ _ (stops f (m, here, is)) (goes u s (same, typed) y) =
+    absurd (not_none here (one_type_fault a b alike ∙ ap fault_of (sym same) ∙ typed.checked.well_typed))
+tree_alike choice a b alike _ _ (goes t r (same, typed) x) (stops g (n, there, was)) =
+    absurd (not_none there (sym (one_type_fault a b alike) ∙ ap fault_of (sym same) ∙ typed.checked.well_typed))
+tree_alike choice a b alike _ _ (goes t r (same, typed) x) (goes u s (also, other) y) =
+    elab_alike choice t u (is_one_program t u typed.main other.main typed.checked other.checked (ap pure_source same ∙ alike ∙ sym (ap pure_source also))) r s x y
 
-one_first : (text : List ℕ) (tokens : List Token) → HasOne (IsFirst text tokens)
-one_first text tokens (Ok a) (Ok b) (made, form, is) (other, also, was) = ap (given Circuit) (is ∙ ap circuit_of (one_circuit text tokens made other form also) ∙ sym was)
-one_first text tokens (Ok a) (Err s) (made, form, is) (other, was) = absurd (other made form)
-one_first text tokens (Err r) (Ok b) (other, is) (made, form, was) = absurd (other made form)
-one_first text tokens (Err r) (Err s) (other, is) (also, was) = ap (refused Circuit) (is ∙ sym was)
+one_source : (choice : Choice) (text : List ℕ) → HasOne (IsSource choice text)
+one_source choice text = then_one (one_tokens text) (λ tokens lexed. then_one_like (tree_like text tokens) (λ a b here there alike r s x y. tree_alike choice a b alike r s x y))
 
-one_circuit_of : (text : List ℕ) → HasOne (IsCircuit text)
-one_circuit_of text =
-    then_one (one_tokens text) (λ tokens lexed. then_one_like (tree_like text tokens)
-    (λ a b here there alike r s x y. then_one (one_typed b) (λ typed fine. one_first text tokens) r s (then_from (typed_alike a b alike) r x) y))
+one_source_of : (held : List ℕ → Option (List ℕ)) (file : List ℕ) (choice : Choice) → HasOne (SourceOf held file choice)
+one_source_of held file choice = then_one (one_text held most_source_bytes file) (λ text read. one_source choice text)
 
 -- ---- a hierarchical text
 
@@ -129,8 +146,11 @@ one_sized limit modules (Err r) (Ok b) (inl (many, is)) (narrow, few, was) = abs
 one_sized limit modules (Err r) (Ok b) (inr (also, more, is)) (narrow, few, was) = absurd (omega arith)
 one_sized limit modules (Err r) (Err s) one other = ap (refused (List Module)) (one_oversize limit modules r s one other)
 
+one_writable : (limit : ℕ) (modules : List Module) → HasOne (IsWritable limit modules)
+one_writable limit modules = then_one (one_counted modules) (λ counted within. one_sized limit modules)
+
 one_expansion : (limit : ℕ) (text : List ℕ) → HasOne (IsExpansion limit text)
-one_expansion limit text = then_one (one_deck text) (λ modules read. then_one (one_counted modules) (λ counted within. one_sized limit modules))
+one_expansion limit text = then_one (one_deck text) (λ modules read. one_writable limit modules)
 
 -- ---- a flat text and a schedule
 
@@ -173,15 +193,19 @@ one_verdict flat schedule =
 
 -- ---- a request
 
-says_one : (held : List ℕ → Option (List ℕ)) (job : Request) → HasOne (Says held job)
-says_one held (Flat file) = then_one (then_one (one_text held most_source_bytes file) (λ text read. one_circuit_of text)) (λ circuit built. is_one _)
-says_one held (Expand file limit) = then_one (then_one (one_text held most_text_bytes file) (λ text read. one_expansion limit text)) (λ modules sized. is_one _)
-says_one held (Check list schedule) =
+says_one : (held : List ℕ → Option (List ℕ)) (all : List Watcher) (job : Request) → HasOne (Says held all job)
+says_one held all (Hier file choice) = then_one (one_source_of held file choice) (λ modules built. is_one _)
+says_one held all (Flat file choice limit kinds burst window reach) =
+    then_one (then_one (one_source_of held file choice) (λ modules built. one_writable limit modules)) (λ modules sized. is_one _)
+says_one held all (Expand file limit) = then_one (then_one (one_text held most_text_bytes file) (λ text read. one_expansion limit text)) (λ modules sized. is_one _)
+says_one held all (Check list schedule) =
     then_one (then_one (one_text held most_text_bytes list) (λ gates read. then_one (one_text held most_text_bytes schedule) (λ plan also. one_verdict gates plan))) (λ found judged. is_one _)
+says_one held all job = is_one _
 
-of_one : (held : List ℕ → Option (List ℕ)) (found : Option Request) (a b : Result Output Refusal) → OfRequest (λ job. Says held job a) found → OfRequest (λ job. Says held job b) found → a ≡ b
-of_one held None a b one other = absurd one
-of_one held (Some job) a b one other = says_one held job a b one other
+of_one : (held : List ℕ → Option (List ℕ)) (all : List Watcher) (found : Option Request) (a b : Result Output Refusal) →
+    OfRequest (λ job. Says held all job a) found → OfRequest (λ job. Says held all job b) found → a ≡ b
+of_one held all None a b one other = absurd one
+of_one held all (Some job) a b one other = says_one held all job a b one other
 
 pub one_answer : HasOneAnswer
-one_answer held words a b one other = of_one held (request words) a b one other
+one_answer held all words a b one other = of_one held all (request words) a b one other

@@ -1,14 +1,15 @@
 -- What a request that was carried out says of the run. `r` is how it ended.
-use Rattle.std.proofs.Common.{◌≡◌, ◌↔◌, ℕ, Bool, false, true, IsTrue, List, Option, None, Some, Result, Ok, Err, refl, sym, ◌∙◌, ap, subst, inl, inr, ◌⊎◌}
+use Rattle.std.proofs.Common.{◌≡◌, ℕ, Bool, false, true, IsTrue, List, Option, None, Result, Ok, Err, refl, sym, ◌∙◌, ap, subst, inl, inr, ◌⊎◌}
 use Rattle.sc_base.specs.Causes.{Stood}
 use Rattle.sc_base.specs.Output.{Wrote}
 use Rattle.sc_base.proofs.CauseLemmas.{rose-stood}
 use Rattle.sc_top.specs.Answers.{request, Says, OfRequest, Answers}
-use Rattle.sc_top.specs.Carried.{Carried}
+use Rattle.sc_top.specs.Carried.{Short, Carried}
 use Rattle.sc_top.specs.Endings.{Output, status_at, is_done}
 use Rattle.sc_top.specs.Fault.{weight_of, weight_status, status_of}
 use Rattle.sc_top.specs.Runs.{status_from, Closed, EndsAs}
 use Rattle.sc_top.specs.Stages.{HasOne}
+use Rattle.sc_top.specs.Watching.{Watcher}
 use Rattle.sc_top.specs.declared.fault.Fault.{Fault}
 use Rattle.sc_top.specs.declared.fault.Fault.TheVariants as fault
 use Rattle.sc_top.specs.declared.fault.Refusal.{Refusal}
@@ -23,6 +24,7 @@ use Rattle.sc_top.specs.declared.status.Status.TheVariants as status
 
 no_weight_done : (w : Weight) → is_done (weight_status w) ≡ false
 no_weight_done weight.Refused = refl
+no_weight_done weight.Usage = refl
 no_weight_done weight.Limit = refl
 
 fault_not_done : (f : Fault) → is_done (status_of f) ≡ false
@@ -39,59 +41,24 @@ ending_done ending.NotLegal = refl
 not_both : {b : Bool} → b ≡ false → b ≡ true → ⊥
 not_both {b} one other = let impossible : false ≡ true = sym one ∙ other in cc
 
-no_usage_weight : (w : Weight) → weight_status w ≡ status.Usage → ⊥
-no_usage_weight weight.Refused is = cc
-no_usage_weight weight.Limit is = cc
-
-fault_usage : (f : Fault) → status_of f ≡ status.Usage → f ≡ fault.Usage
-fault_usage fault.Usage is = refl
-fault_usage fault.ReadFault is = absurd (let impossible : status.ReadFailed ≡ status.Usage = is in cc)
-fault_usage fault.WriteFault is = absurd (let impossible : status.WriteFailed ≡ status.Usage = is in cc)
-fault_usage fault.Memory is = absurd (let impossible : status.Memory ≡ status.Usage = is in cc)
-fault_usage (fault.Refused refusal) is = absurd (no_usage_weight (weight_of refusal.reason) is)
-
-ending_usage : (e : Ending) → status_at e ≡ status.Usage → ⊥
-ending_usage ending.Done is = cc
-ending_usage ending.NotLegal is = cc
-
-abbrev ended_with : Fault → Result Ending Fault
-ended_with f = Err f
-
--- the status is `Usage` exactly where the request ended so
-pub run_usage : {N : Type 0} (r : Result Ending Fault) → (r ≡ Err fault.Usage) ↔ N → (status_from r ≡ status.Usage) ↔ N
-run_usage (Ok e) usage = (λ is. absurd (ending_usage e is), λ n. absurd (let impossible : Ok e ≡ ended_with fault.Usage = usage.1 n in cc))
-run_usage (Err f) usage = (λ is. usage.0 (ap ended_with (fault_usage f is)), λ n. ap status_from (usage.1 n))
-
-same_end : {f g : Fault} → ended_with f ≡ ended_with g → f ≡ g
-same_end {f} {g} is = cc
+-- the status is that of how the request ended
+pub run_usage : (r : Result Ending Fault) → (r ≡ Err fault.Usage) ⊎ (r ≡ Err fault.Memory) → (status_from r ≡ status.Usage) ⊎ (status_from r ≡ status.Memory)
+run_usage r (inl is) = inl (ap status_from is)
+run_usage r (inr is) = inr (ap status_from is)
 
 -- ---- the clauses
 
-was_asked : {found : Option Request} {job : Request} → found ≡ Some job → found ≡ None → ⊥
-was_asked {found} {job} asked none = let impossible : Some job ≡ None = sym asked ∙ none in cc
-
--- a request that is carried out does not end with `Usage`
-pub carried_usage : {F O : Type 0} {held : F → List ℕ → Option (List ℕ)} {tells_held : F → Bool} {shelf_faults : F → ℕ} {tells : O → Bool} {bytes : O → List ℕ} {is_ended : O → Bool} {faults : O → ℕ}
-    {A : (List ℕ → Option (List ℕ)) → Result Output Refusal → Type 0} {shelf_old shelf_new : F} {old new : O} {found : Option Request} {job : Request} (r : Result Ending Fault) → found ≡ Some job →
-    Carried held tells_held shelf_faults tells bytes is_ended faults ⊥ A shelf_old shelf_new old new r → (r ≡ Err fault.Usage) ↔ (found ≡ None)
-carried_usage (Ok e) asked c = (λ is. absurd (let impossible : Ok e ≡ ended_with fault.Usage = is in cc), λ none. absurd (was_asked asked none))
-carried_usage (Err fault.Usage) asked c = (λ is. absurd c.fault.1, λ none. absurd (was_asked asked none))
-carried_usage (Err fault.ReadFault) asked c = (λ is. absurd (let impossible : fault.ReadFault ≡ fault.Usage = same_end is in cc), λ none. absurd (was_asked asked none))
-carried_usage (Err fault.WriteFault) asked c = (λ is. absurd (let impossible : fault.WriteFault ≡ fault.Usage = same_end is in cc), λ none. absurd (was_asked asked none))
-carried_usage (Err fault.Memory) asked c = (λ is. absurd (let impossible : fault.Memory ≡ fault.Usage = same_end is in cc), λ none. absurd (was_asked asked none))
-carried_usage (Err (fault.Refused refusal)) asked c = (λ is. absurd (let impossible : fault.Refused refusal ≡ fault.Usage = same_end is in cc), λ none. absurd (was_asked asked none))
-
 pub run_done : {F O : Type 0} {held : F → List ℕ → Option (List ℕ)} {tells_held : F → Bool} {shelf_faults : F → ℕ} {tells : O → Bool} {bytes : O → List ℕ} {is_ended : O → Bool} {faults : O → ℕ} {N : Type 0}
-    {A : (List ℕ → Option (List ℕ)) → Result Output Refusal → Type 0} {shelf_old shelf_new : F} {old new : O} (r : Result Ending Fault) →
-    Carried held tells_held shelf_faults tells bytes is_ended faults N A shelf_old shelf_new old new r → IsTrue (is_done (status_from r)) → IsTrue (tells_held shelf_old) →
+    {A : (List ℕ → Option (List ℕ)) → Result Output Refusal → Type 0} {Late : Type 0} {Leaves : (List ℕ → Option (List ℕ)) → List ℕ → Type 0} {shelf_old shelf_new : F} {old new : O} (r : Result Ending Fault) →
+    Carried held tells_held shelf_faults tells bytes is_ended faults N A Late Leaves shelf_old shelf_new old new r → IsTrue (is_done (status_from r)) → IsTrue (tells_held shelf_old) →
     (output : Output) × A (held shelf_old) (Ok output) × (status_from r ≡ status_at output.ends) × Wrote tells bytes old new output.text
 run_done (Ok e) c is told = let (text, answer, wrote) = c.done.whole told in (record { text = text; ends = e }, answer, refl, wrote)
 run_done (Err f) c is told = absurd (not_both (fault_not_done f) is)
 
 pub run_exact : {F O E : Type 0} {held : F → List ℕ → Option (List ℕ)} {tells_held : F → Bool} {shelf_faults : F → ℕ} {tells : O → Bool} {bytes : O → List ℕ} {is_ended : O → Bool} {faults : O → ℕ} {N : Type 0}
-    {A : (List ℕ → Option (List ℕ)) → Result Output Refusal → Type 0} {shelf_old shelf_new : F} {old new : O}
+    {A : (List ℕ → Option (List ℕ)) → Result Output Refusal → Type 0} {Late : Type 0} {Leaves : (List ℕ → Option (List ℕ)) → List ℕ → Type 0} {shelf_old shelf_new : F} {old new : O}
     {err_tells : E → Bool} {err_bytes : E → List ℕ} {err_ended : E → Bool} {err_faults : E → ℕ} {err_old err_new : E} (r : Result Ending Fault) →
-    Carried held tells_held shelf_faults tells bytes is_ended faults N A shelf_old shelf_new old new r → Closed err_tells err_bytes err_ended err_faults err_old err_new r →
+    Carried held tells_held shelf_faults tells bytes is_ended faults N A Late Leaves shelf_old shelf_new old new r → Closed err_tells err_bytes err_ended err_faults err_old err_new r →
     HasOne (A (held shelf_old)) → ((answer : Result Output Refusal) → N → A (held shelf_old) answer → ⊥) →
     (answer : Result Output Refusal) → IsTrue (tells_held shelf_old) → A (held shelf_old) answer → Stood (shelf_faults shelf_old) (shelf_faults shelf_new) → Stood (faults old) (faults new) →
     (status_from r ≡ status.Memory) ⊎ EndsAs tells bytes err_tells err_bytes err_ended err_faults old new err_old err_new (status_from r) answer
@@ -107,6 +74,27 @@ run_exact {tells = tells} {bytes = bytes} {old = old} {new = new} {err_tells = e
     (Err (fault.Refused refusal)) c ends one none answer told has shelf_stood out_stood =
     inr (subst (λ (a : Result Output Refusal). EndsAs tells bytes err_tells err_bytes err_ended err_faults old new err_old err_new (status_of (fault.Refused refusal)) a) (one _ answer (c.fault.answer told) has) (refl, ends.told))
 
+no_weight_memory : (w : Weight) → weight_status w ≡ status.Memory → ⊥
+no_weight_memory weight.Refused is = cc
+no_weight_memory weight.Usage is = cc
+no_weight_memory weight.Limit is = cc
+
+no_ending_memory : (e : Ending) → status_at e ≡ status.Memory → ⊥
+no_ending_memory ending.Done is = cc
+no_ending_memory ending.NotLegal is = cc
+
+-- memory is wanting
+pub run_memory : {F O : Type 0} {held : F → List ℕ → Option (List ℕ)} {tells_held : F → Bool} {shelf_faults : F → ℕ} {tells : O → Bool} {bytes : O → List ℕ} {is_ended : O → Bool} {faults : O → ℕ} {N : Type 0}
+    {A : (List ℕ → Option (List ℕ)) → Result Output Refusal → Type 0} {Late : Type 0} {Leaves : (List ℕ → Option (List ℕ)) → List ℕ → Type 0} {shelf_old shelf_new : F} {old new : O} (r : Result Ending Fault) →
+    Carried held tells_held shelf_faults tells bytes is_ended faults N A Late Leaves shelf_old shelf_new old new r → status_from r ≡ status.Memory →
+    Short tells bytes (IsTrue (tells_held shelf_old)) Late (Leaves (held shelf_old)) old new
+run_memory (Ok e) c is = absurd (no_ending_memory e is)
+run_memory (Err fault.Usage) c is = absurd (let impossible : status.Usage ≡ status.Memory = is in cc)
+run_memory (Err fault.ReadFault) c is = absurd (let impossible : status.ReadFailed ≡ status.Memory = is in cc)
+run_memory (Err fault.WriteFault) c is = absurd (let impossible : status.WriteFailed ≡ status.Memory = is in cc)
+run_memory (Err fault.Memory) c is = c.fault
+run_memory (Err (fault.Refused refusal)) c is = absurd (no_weight_memory (weight_of refusal.reason) is)
+
 -- words without a request have no answer
-pub no_answer : (held : List ℕ → Option (List ℕ)) (words : List (List ℕ)) (answer : Result Output Refusal) → request words ≡ None → Answers held words answer → ⊥
-no_answer held words answer none has = subst (λ (found : Option Request). OfRequest (λ job. Says held job answer) found) none has
+pub no_answer : (held : List ℕ → Option (List ℕ)) (all : List Watcher) (words : List (List ℕ)) (answer : Result Output Refusal) → request words ≡ None → Answers held all words answer → ⊥
+no_answer held all words answer none has = subst (λ (found : Option Request). OfRequest (λ job. Says held all job answer) found) none has

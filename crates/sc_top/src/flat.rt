@@ -1,11 +1,11 @@
 //! The request for a flat text.
-ghost use Rattle.std.specs.Prelude.{◌≡◌, ◌++◌, [], false, map, flat_map};
+ghost use Rattle.std.specs.Prelude.{◌≡◌, ◌++◌, false, map, IfOk, OnErr};
 ghost use Rattle.sc_deck.specs.Events.{flat, gates_in};
 ghost use Rattle.sc_probe.specs.Rules.{state_text};
 ghost use Rattle.sc_top.specs.Answers.{FlatOf, CarriedOut};
 ghost use Rattle.sc_top.specs.Carried.{Took, PrintsLate};
 ghost use Rattle.sc_top.specs.Expansions.{whole};
-ghost use Rattle.sc_top.specs.Watching.{watchers, probe_lines, comment_line, AreSome};
+ghost use Rattle.sc_top.specs.Watching.{watchers, probe_lines, AreSome};
 ghost use Rattle.sc_top.specs.declared.request.Request.TheVariants as requests;
 
 use crate::expansion::{Expansion, sized};
@@ -13,7 +13,7 @@ use crate::fault::Fault;
 use crate::source::source_of;
 use crate::status::Ending;
 use crate::watch::{Asked, print_lines};
-use sc_base::{Shelf, Sink};
+use sc_base::{List, Memory, Shelf, Sink, Text};
 use sc_elab::Choice;
 use sc_probe::{Probe, report_all};
 use std::alloc::Global;
@@ -69,33 +69,27 @@ fn print<O: Sink>(
         PrintsLate O.tells O.bytes O.is_ended O.faults (AreSome all) out.old out.new text (text ++ probe_lines (gates_in (whole expansion.old)) all) result }
 {
     match expansion.expander.write(&expansion.deck, out, probes) {
-        Ok(()) => print_reports(alloc, probes, out),
-        Err(_) => Err(Fault::WriteFault),
+        Ok(()) => {}
+        Err(_) => return Err(Fault::WriteFault),
     }
-}
-
-/// Writes what the probes tell, each on a line, and ends the sink. Takes no memory where there is none.
-fn print_reports<O: Sink>(
-    alloc: Global,
-    probes: &[Box<dyn Probe>],
-    out: &mut O,
-) -> Result<(), Fault>
-    requires { O.is_ended out.old ≡ false }
-    ensures { PrintsLate O.tells O.bytes O.is_ended O.faults (AreSome (watchers rule state probes.now)) out.old out.new []
-        (flat_map comment_line (map (λ p. state_text (rule p) (state p)) probes.now)) result }
-{
-    if probes.is_empty() {
-        return match out.finish() {
-            Ok(()) => Ok(()),
-            Err(_) => Err(Fault::WriteFault),
-        };
-    }
-    let texts = match report_all(alloc, probes) {
+    let texts = match reports(alloc, probes) {
         Ok(texts) => texts,
         Err(_) => return Err(Fault::Memory),
     };
     match print_lines(texts.as_slice(), out) {
         Ok(()) => Ok(()),
         Err(_) => Err(Fault::WriteFault),
+    }
+}
+
+/// What the probes tell. Takes no memory where there is none.
+fn reports(alloc: Global, probes: &[Box<dyn Probe>]) -> Result<List<Text>, Memory>
+    ensures texts { IfOk result (λ texts. texts ≡ map (λ p. state_text (rule p) (state p)) probes.now) }
+    ensures some { OnErr result (AreSome (watchers rule state probes.now)) }
+{
+    if probes.is_empty() {
+        Ok(List::new(alloc))
+    } else {
+        report_all(alloc, probes)
     }
 }
