@@ -1,7 +1,6 @@
 -- The list of a deck: why it is refused, that it is one, and that there is one.
 use Rattle.std.proofs.Common.{◌≡◌, ℕ, ◌-◌, ◌<◌, ◌≤◌, ◌^◌, List, length, get_or, Ok, Err, Result, refl, sym, ap, ◌∙◌, arith, inl, inr}
 use Rattle.std.proofs.lemmas.Bool.{cases_lt}
-use Rattle.std.proofs.lemmas.List.{get_or_from_slice_get}
 use Rattle.sc_base.specs.Limits.{most_gates}
 use Rattle.sc_count.specs.Counting.{counts_in}
 use Rattle.sc_count.specs.Limits.{IsWithin}

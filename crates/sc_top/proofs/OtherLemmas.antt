@@ -1,5 +1,6 @@
--- The stages of `open`, `reopen` and `cancel`: that each has one answer, and that it has one.
-use Rattle.std.proofs.Common.{◌≡◌, ℕ, List, Some, Ok, refl, ap}
+-- The stages of `open`, `reopen`, `cancel` and `drill`: that each has one answer, and that it has one.
+use Rattle.std.proofs.Common.{◌≡◌, ℕ, ◌≤◌, Bool, List, Option, Some, Result, Ok, Err, map, refl, ap, ◌∙◌, arith}
+use Rattle.sc_cancel.specs.Cancelling.{shorter, gates_at}
 use Rattle.sc_deck.specs.Modules.{Module}
 use Rattle.sc_open.proofs.Grammar.{grammar_is_read}
 use Rattle.sc_open.proofs.StageLaws.{one_open_text, no_bad_open_line, one_bad_open_line}
@@ -7,14 +8,20 @@ use Rattle.sc_open.specs.OpenReads.{IsInGrammar, IsOpenFault}
 use Rattle.sc_open.specs.declared.reader.OpenFault.{OpenFault}
 use Rattle.sc_open.specs.declared.reader.OpenFault.TheVariants as opening
 use Rattle.sc_open.specs.declared.text.OpenText.{OpenText}
-use Rattle.sc_top.specs.Listed.{list_of, IsListable}
+use Rattle.sc_probe.specs.Rules.{folded, state_text}
+use Rattle.sc_probe.specs.declared.rule.Rule.{Rule}
+use Rattle.sc_read.specs.declared.flat.FlatText.{FlatText}
+use Rattle.sc_top.specs.Carried.{Took}
+use Rattle.sc_top.specs.Listed.{ones, list_of, IsListable}
 use Rattle.sc_top.specs.Lowered.{open_refusal, IsOpened}
-use Rattle.sc_top.specs.Shortened.{ones, shortened_text, IsShortened}
-use Rattle.sc_top.specs.Stages.{goes, HasOne}
-use Rattle.sc_top.specs.Watching.{Watcher}
+use Rattle.sc_top.specs.Shortened.{shortened_text, kept_text, IsShortened}
+use Rattle.sc_top.specs.Stages.{goes, HasOne, Found}
+use Rattle.sc_top.specs.Watching.{Watcher, watchers, told_of}
+use Rattle.sc_top.specs.declared.fault.Fault.{Fault}
 use Rattle.sc_top.specs.declared.fault.Refusal.{Refusal}
 use Rattle.sc_top.proofs.ListLemmas.{one_listed, has_list}
-use Rattle.sc_top.proofs.StageLemmas.{gives_one, known_fault, then_one, is_one}
+use Rattle.sc_top.proofs.WatchLemmas.{told_after}
+use Rattle.sc_top.proofs.StageLemmas.{gives_one, known_fault, then_one, is_one, why_map}
 
 -- ---- an OpenQASM text
 
@@ -35,9 +42,31 @@ one_opened text = gives_one (IsInGrammar text) (IsOpenFault text) open_refusal (
 
 -- ---- a list without the pairs that undo each other
 
+-- the text of the gates that stay, and of what probes tell that were shown them
+pub shortened_is : {P : Type 0} (rule : P → Rule) (state : P → List ℕ) (list : FlatText) (kept : List ℕ) (told : List (List ℕ)) (old new : List P) → kept ≡ shorter list.gates → map rule new ≡ map rule old →
+    map state new ≡ map (λ p. folded (rule p) (state p) (gates_at list.gates kept)) old → told ≡ map (λ p. state_text (rule p) (state p)) new → kept_text list kept told ≡ shortened_text (watchers rule state old) list
+shortened_is rule state list kept told old new is rules states tells =
+    let said : told ≡ map (told_of (gates_at list.gates kept)) (watchers rule state old) = tells ∙ told_after rule state (gates_at list.gates kept) old new rules states in
+    ap (λ (t : List (List ℕ)). kept_text list kept t) said ∙ ap (λ (k : List ℕ). kept_text list k (map (told_of (gates_at list.gates k)) (watchers rule state old))) is
+
 pub one_shortened : (all : List Watcher) (modules : List Module) → HasOne (IsShortened all modules)
 one_shortened all modules = then_one (one_listed ones modules) (λ list listed. is_one _)
 
 -- a deck within every limit has such a text
 pub has_shortened : (all : List Watcher) (modules : List Module) → IsListable ones modules → IsShortened all modules (Ok (shortened_text all (list_of modules)))
 has_shortened all modules fits = goes (list_of modules) _ (has_list ones modules fits) refl
+
+-- ---- a drill
+
+same : (n : ℕ) → n ≤ n
+same n = omega arith
+
+-- a call that looks at no shelf is one that reads nothing of it
+pub took_found : {F A : Type 0} {Stage : Result A Refusal → Type 0} (held : F → List ℕ → Option (List ℕ)) (tells : F → Bool) (faults : F → ℕ) (shelf : F) (r : Result A Fault) → Found Stage r →
+    Took held tells faults (λ texts. Stage) shelf shelf r
+took_found held tells faults shelf (Ok a) found = record { kept = record { held_still = refl; tells_still = refl; later = same (faults shelf) }; value = λ told. found.value; fault = tt }
+took_found held tells faults shelf (Err f) found = record {
+  kept = record { held_still = refl; tells_still = refl; later = same (faults shelf) };
+  value = tt;
+  fault = why_map f (λ x. x) (λ none. absurd none) (λ x. x) (λ x. x) (λ r said told. said) found.fault;
+}

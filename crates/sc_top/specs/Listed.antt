@@ -1,5 +1,5 @@
 -- The stages from a deck to its list of gates.
-use Rattle.std.specs.Prelude.{◌≡◌, ℕ, ◌<◌, ◌≤◌, List, Option, None, Some, Result, Ok, Err, length}
+use Rattle.std.specs.Prelude.{◌≡◌, ℕ, ◌<◌, ◌≤◌, List, Option, None, Some, Result, Ok, Err, length, replicate}
 use Rattle.sc_base.specs.Limits.{most_gates}
 use Rattle.sc_count.specs.Limits.{IsWithin}
 use Rattle.sc_deck.specs.Events.{fresh_in, gates_in}
@@ -14,6 +14,10 @@ use Rattle.sc_top.specs.Stages.{Then}
 use Rattle.sc_top.specs.Tallied.{counts_by, IsCountedBy}
 use Rattle.sc_top.specs.declared.fault.Refusal.{Refusal}
 use Rattle.sc_top.specs.declared.fault.Reason.TheVariants as reason
+
+-- the durations of gates where a request names none
+abbrev pub ones : List ℕ
+ones = replicate 18 1
 
 -- the gates of main with all its calls written out, and the numbers of its qubits and classical bits
 abbrev pub list_of : List Module → FlatText

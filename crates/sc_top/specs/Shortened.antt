@@ -1,11 +1,11 @@
 -- The stage from a deck to its list without the pairs of gates that undo each other, as it is written.
-use Rattle.std.specs.Prelude.{ℕ, List, ◌++◌, Result, Ok, flat_map, replicate}
+use Rattle.std.specs.Prelude.{ℕ, List, ◌++◌, Result, Ok, flat_map}
 use Rattle.sc_cancel.specs.Cancelling.{shorter, gates_at}
 use Rattle.sc_deck.specs.Modules.{Module}
 use Rattle.sc_gate.specs.Lines.{flat_text}
 use Rattle.sc_gate.specs.declared.gate.Gate.{Gate}
 use Rattle.sc_read.specs.declared.flat.FlatText.{FlatText}
-use Rattle.sc_top.specs.Listed.{IsListed}
+use Rattle.sc_top.specs.Listed.{ones, IsListed}
 use Rattle.sc_top.specs.Stages.{Then, Is}
 use Rattle.sc_top.specs.Watching.{Watcher, comment_line, probe_lines}
 use Rattle.sc_top.specs.declared.fault.Refusal.{Refusal}
@@ -22,10 +22,6 @@ shortened_text all list = flat_text list.qubits list.cbits (kept_gates list.gate
 -- the same, from the positions of the gates and what the probes tell
 abbrev pub kept_text : FlatText → List ℕ → List (List ℕ) → List ℕ
 kept_text list kept told = flat_text list.qubits list.cbits (gates_at list.gates kept) ++ flat_map comment_line told
-
--- the durations of gates where a request names none
-abbrev pub ones : List ℕ
-ones = replicate 18 1
 
 -- the text of a deck
 abbrev pub IsShortened : List Watcher → List Module → Result (List ℕ) Refusal → Type 0

@@ -1,15 +1,27 @@
 //! The large source of a number, and what is told of it.
-ghost use Rattle.std.specs.Prelude.{◌≡◌, ◌-◌, ◌≤◌, ◌++◌, false, decimal, flat_map, length, IfOk, OnOk};
+ghost use Rattle.std.specs.Prelude.{◌≡◌, ◌-◌, ◌≤◌, ◌++◌, ℕ, Bool, false, List, [], Option, decimal, flat_map, length, IfOk, OnOk};
 ghost use Rattle.std.specs.List.{range_with_len};
 ghost use Rattle.sc_base.specs.Causes.{HasCause};
 ghost use Rattle.sc_base.specs.Limits.{most_source_bytes};
 ghost use Rattle.sc_base.specs.Output.{Wrote, WrotePrefix};
+ghost use Rattle.sc_top.specs.Answers.{CarriedOut};
 ghost use Rattle.sc_top.specs.Carried.{Prints};
 ghost use Rattle.sc_top.specs.Drills.{module_line, call_line, drill_text, drill_lines, drill_summary};
+ghost use Rattle.sc_top.specs.Listed.{ones};
+ghost use Rattle.sc_top.specs.Sources.{IsSource};
+ghost use Rattle.sc_top.specs.Stages.{Found, Then};
+ghost use Rattle.sc_top.specs.Tallied.{IsSummarized};
+ghost use Rattle.sc_top.specs.declared.request.Request.TheVariants as requests;
+ghost use Rattle.sc_meaning.specs.declared.choice.Choice.TheVariants as choice;
 
+use crate::fault::Fault;
 use crate::report::Summary;
+use crate::source::build_deck;
+use crate::status::Ending;
+use crate::tallied::summarized;
 use sc_base::{LineBuffer, Memory, Sink, Text, WriteFault};
-use sc_gate::write_number_line;
+use sc_elab::Choice;
+use sc_gate::{Times, write_number_line};
 use std::alloc::Global;
 
 /// A source that is larger the greater `n` is, from 1 to 50,000, to try the compiler by: `n` modules on three qubits, each
@@ -82,8 +94,36 @@ fn push_numbered(text: &mut Text, front: &[u8], number: u32) -> Result<(), Memor
     text.push_bytes(line.as_bytes())
 }
 
+/// Writes the summary of the drill source of `n`, and ends the sink. It looks at no shelf.
+pub(crate) fn carry_drill<O: Sink>(alloc: Global, n: u32, out: &mut O) -> Result<Ending, Fault>
+    requires open { O.is_ended out.old ≡ false }
+    requires some { 1 ≤ n }
+    requires most { n ≤ 50000 }
+    ensures { (S : Type 0) (held : S → List ℕ → Option (List ℕ)) (tells_held : S → Bool) (faults : S → ℕ) (shelf : S) →
+        CarriedOut held tells_held faults O.tells O.bytes O.is_ended O.faults [] (requests.Drill n) shelf shelf out.old out.new result }
+{
+    let source = match drill_source(alloc, n) {
+        Ok(source) => source,
+        Err(_) => return Err(Fault::Memory),
+    };
+    let summary = drilled(alloc, source.as_bytes())?;
+    match print_drill(n, source.len(), &summary, out) {
+        Ok(()) => Ok(Ending::Done),
+        Err(_) => Err(Fault::WriteFault),
+    }
+}
+
+/// What is told of the deck of a source, its Toffoli and Fredkin gates replaced.
+fn drilled(alloc: Global, source: &[u8]) -> Result<Summary, Fault>
+    requires { length source.now ≤ most_source_bytes }
+    ensures { Found (Then (IsSource choice.Replace source.now) (IsSummarized ones)) result }
+{
+    let deck = build_deck(alloc, source, Choice::Replace)?;
+    summarized(alloc, &deck, &Times::ones())
+}
+
 /// Writes the summary of the source of `n`, which has so many bytes, and ends the sink. Takes no memory.
-pub(crate) fn print_drill<O: Sink>(
+fn print_drill<O: Sink>(
     n: u32,
     bytes: usize,
     summary: &Summary,
@@ -113,9 +153,9 @@ fn write_drill<O: Sink>(
     ensures prefix { WrotePrefix O.tells O.bytes out.old out.new (drill_lines n bytes summary.now) }
     ensures cause { HasCause (O.faults out.old) (O.faults out.new) result }
 {
-    write_number_line(b"drill", u128::from(n), out)?;
+    write_number_line(b"drill", n as u128, out)?;
     write_number_line(b"bytes", bytes as u128, out)?;
-    write_number_line(b"instances", u128::from(summary.instances), out)?;
+    write_number_line(b"instances", summary.instances as u128, out)?;
     write_number_line(b"qubits", summary.counts.qubits, out)?;
     write_number_line(b"gates", summary.counts.gates, out)?;
     write_number_line(b"critical", summary.critical, out)?;

@@ -3,17 +3,22 @@ ghost use Rattle.std.specs.Prelude.{◌≡◌, ◌≤◌, false, length, IfOk};
 ghost use Rattle.sc_base.specs.Limits.{most_gates};
 ghost use Rattle.sc_deck.specs.Decks.{IsWhole};
 ghost use Rattle.sc_gate.specs.Gates.{AreWellFormed};
-ghost use Rattle.sc_top.specs.Carried.{Prints};
+ghost use Rattle.sc_top.specs.Answers.{ShortenedOf, CarriedOut};
+ghost use Rattle.sc_top.specs.Carried.{Took, Prints};
 ghost use Rattle.sc_top.specs.Shortened.{shortened_text, IsShortened};
 ghost use Rattle.sc_top.specs.Stages.{Found};
 ghost use Rattle.sc_top.specs.Watching.{watchers};
+ghost use Rattle.sc_top.specs.declared.request.Request.TheVariants as requests;
 
 use crate::fault::Fault;
 use crate::listed::listed;
-use crate::watch::print_lines;
-use sc_base::{List, Memory, Sink, Text, WriteFault};
+use crate::source::source_of;
+use crate::status::Ending;
+use crate::watch::{Asked, print_lines};
+use sc_base::{List, Memory, Shelf, Sink, Text, WriteFault};
 use sc_cancel::{cancel, show, write_kept};
 use sc_deck::Deck;
+use sc_elab::Choice;
 use sc_gate::Times;
 use sc_probe::{Probe, report_all};
 use sc_read::FlatText;
@@ -23,7 +28,7 @@ use std::marker::Model;
 /// A list, the positions of its gates that stay, and what probes tell of these. Contracts see the text that is written of
 /// them.
 #[derive(Drop)]
-pub(crate) struct KeptGates {
+struct KeptGates {
     list: FlatText,
     kept: List<u32>,
     told: List<Text>,
@@ -41,9 +46,48 @@ impl Model for KeptGates {
     ghost invariant = { λ s. AllByRecursion (λ p. p < length s.list.gates) s.kept };
 }
 
+/// Writes the flat text of the source under a name without the pairs of gates that undo each other, with the numbers of
+/// wires of the whole list, and the lines of the probes whose rules are asked for, and ends the sink. These probes are
+/// shown the gates that stay, and the others are dropped before.
+pub(crate) fn carry_cancel<F: Shelf, O: Sink>(
+    alloc: Global,
+    file: &[u8],
+    choice: Choice,
+    asked: Asked,
+    probes: Vec<Box<dyn Probe>>,
+    shelf: &mut F,
+    out: &mut O,
+) -> Result<Ending, Fault>
+    requires { O.is_ended out.old ≡ false }
+    ensures { CarriedOut F.held F.tells_held F.faults O.tells O.bytes O.is_ended O.faults (watchers rule state probes.items)
+        (requests.Cancel file.now choice asked.kinds asked.burst asked.window asked.reach) shelf.old shelf.new out.old out.new result }
+{
+    let mut probes = probes;
+    asked.keep(&mut probes);
+    let kept = kept_of(alloc, file, choice, probes.as_mut_slice(), shelf)?;
+    match print_shortened(&kept, out) {
+        Ok(()) => Ok(Ending::Done),
+        Err(_) => Err(Fault::WriteFault),
+    }
+}
+
+/// The list of the source under a name without these pairs, and what the probes tell of it.
+fn kept_of<F: Shelf>(
+    alloc: Global,
+    file: &[u8],
+    choice: Choice,
+    probes: &mut [Box<dyn Probe>],
+    shelf: &mut F,
+) -> Result<KeptGates, Fault>
+    ensures { Took F.held F.tells_held F.faults (λ held. ShortenedOf held (watchers rule state probes.old) file.now choice) shelf.old shelf.new result }
+{
+    let deck = source_of(alloc, file, choice, shelf)?;
+    shortened(alloc, &deck, probes)
+}
+
 /// The list of a whole deck without the pairs that undo each other, and what the probes tell, which are shown the gates
 /// that stay. It is refused as `listed` is.
-pub(crate) fn shortened(
+fn shortened(
     alloc: Global,
     deck: &Deck,
     probes: &mut [Box<dyn Probe>],
@@ -75,7 +119,7 @@ fn shorten(
 }
 
 /// Writes the text of a shortened list, and ends the sink. Takes no memory.
-pub(crate) fn print_shortened<O: Sink>(kept: &KeptGates, out: &mut O) -> Result<(), WriteFault>
+fn print_shortened<O: Sink>(kept: &KeptGates, out: &mut O) -> Result<(), WriteFault>
     requires { O.is_ended out.old ≡ false }
     ensures { Prints O.tells O.bytes O.is_ended O.faults out.old out.new kept.now result }
 {
