@@ -37,16 +37,22 @@ use Rattle.sc_types.proofs.OneFault.{one_fault as one_type_fault}
 use Rattle.sc_types.specs.Sources.{fault_of}
 use Rattle.sc_types.specs.Typing.{TypedSource}
 use Rattle.sc_top.specs.Answers.{IsText, SourceOf, Says, OfRequest, request, HasOneAnswer}
+use Rattle.sc_meaning.specs.declared.choice.Choice.TheVariants.{Replace}
+use Rattle.sc_top.specs.Drills.{drill_text}
+use Rattle.sc_top.specs.Listed.{ones}
+use Rattle.sc_top.proofs.ListLemmas.{one_listed}
+use Rattle.sc_top.proofs.ModeLemmas.{one_summarized}
+use Rattle.sc_top.proofs.OtherLemmas.{one_opened, one_shortened}
 use Rattle.sc_top.specs.Endings.{Output}
 use Rattle.sc_top.specs.Expansions.{IsDeckOf, IsCounted, IsOversized, IsSized, IsWritable, IsExpansion, whole_counts}
 use Rattle.sc_top.specs.Fault.{token_refusal, grammar_refusal, type_refusal, elab_refusal, flat_refusal, plan_refusal, hier_refusal}
 use Rattle.sc_top.specs.Sources.{IsTokens, IsTree, IsTyped, IsElaborated, IsSource}
 use Rattle.sc_top.specs.Stages.{Then, stops, goes, HasOne, HasOneLike}
 use Rattle.sc_top.specs.Verdicts.{IsList, IsPlan, IsVerdict}
-use Rattle.sc_top.specs.Watching.{Watcher}
+use Rattle.sc_top.specs.Watching.{Watcher, asked_of}
 use Rattle.sc_top.specs.declared.fault.Refusal.{Refusal}
 use Rattle.sc_top.specs.declared.request.Request.{Request}
-use Rattle.sc_top.specs.declared.request.Request.TheVariants.{Hier, Flat, Expand, Check}
+use Rattle.sc_top.specs.declared.request.Request.TheVariants.{Hier, Flat, Expand, Check, Drill, ToOpen, FromOpen, Cancel}
 use Rattle.sc_top.proofs.FewGates.{few_gates}
 use Rattle.sc_top.proofs.SourceLaws.{modules_alike}
 use Rattle.sc_top.proofs.StageLemmas.{same_some, gives_one, known_fault, then_one_like, then_one, is_one}
@@ -200,6 +206,10 @@ says_one held all (Flat file choice limit kinds burst window reach) =
 says_one held all (Expand file limit) = then_one (then_one (one_text held most_text_bytes file) (λ text read. one_expansion limit text)) (λ modules sized. is_one _)
 says_one held all (Check list schedule) =
     then_one (then_one (one_text held most_text_bytes list) (λ gates read. then_one (one_text held most_text_bytes schedule) (λ plan also. one_verdict gates plan))) (λ found judged. is_one _)
+says_one held all (Drill n) = then_one (then_one (one_source Replace (drill_text n)) (λ modules built. one_summarized ones modules)) (λ summary told. is_one _)
+says_one held all (ToOpen file choice) = then_one (then_one (one_source_of held file choice) (λ modules built. one_listed ones modules)) (λ list listed. is_one _)
+says_one held all (FromOpen file) = then_one (then_one (one_text held most_text_bytes file) (λ text read. one_opened text)) (λ opened is. is_one _)
+says_one held all (Cancel file choice kinds burst window reach) = then_one (then_one (one_source_of held file choice) (λ modules built. one_shortened (asked_of (record { kinds = kinds; burst = burst; window = window; reach = reach }) all) modules)) (λ text kept. is_one _)
 says_one held all job = is_one _
 
 of_one : (held : List ℕ → Option (List ℕ)) (all : List Watcher) (found : Option Request) (a b : Result Output Refusal) →
