@@ -1,5 +1,9 @@
 -- The stages of `open`, `reopen`, `cancel` and `drill`: that each has one answer, and that it has one.
-use Rattle.std.proofs.Common.{◌≡◌, ℕ, ◌≤◌, Bool, List, Option, Some, Result, Ok, Err, map, refl, ap, ◌∙◌, arith}
+use Rattle.std.proofs.Common.{◌≡◌, ℕ, ◌≤◌, Bool, false, List, ◌++◌, Option, Some, Result, Ok, Err, map, refl, ap, ◌∙◌, arith}
+use Rattle.sc_base.proofs.CauseLemmas.{rose_after}
+use Rattle.sc_base.proofs.OutputLemmas.{wrote_then, prefix_then, prefix_more}
+use Rattle.sc_base.specs.Causes.{Rose}
+use Rattle.sc_base.specs.Output.{Wrote, WrotePrefix}
 use Rattle.sc_cancel.specs.Cancelling.{shorter, gates_at}
 use Rattle.sc_deck.specs.Modules.{Module}
 use Rattle.sc_open.proofs.Grammar.{grammar_is_read}
@@ -11,7 +15,7 @@ use Rattle.sc_open.specs.declared.text.OpenText.{OpenText}
 use Rattle.sc_probe.specs.Rules.{folded, state_text}
 use Rattle.sc_probe.specs.declared.rule.Rule.{Rule}
 use Rattle.sc_read.specs.declared.flat.FlatText.{FlatText}
-use Rattle.sc_top.specs.Carried.{Took}
+use Rattle.sc_top.specs.Carried.{Took, Prints}
 use Rattle.sc_top.specs.Listed.{ones, list_of, IsListable}
 use Rattle.sc_top.specs.Lowered.{open_refusal, IsOpened}
 use Rattle.sc_top.specs.Shortened.{shortened_text, kept_text, IsShortened}
@@ -22,6 +26,9 @@ use Rattle.sc_top.specs.declared.fault.Refusal.{Refusal}
 use Rattle.sc_top.proofs.ListLemmas.{one_listed, has_list}
 use Rattle.sc_top.proofs.WatchLemmas.{told_after}
 use Rattle.sc_top.proofs.StageLemmas.{gives_one, known_fault, then_one, is_one, why_map}
+
+abbrev failed : (T E : Type 0) → E → Result T E
+failed T E e = Err e
 
 -- ---- an OpenQASM text
 
@@ -39,6 +46,31 @@ one_open_fault text (opening.BadOpen m) opening.Memory r s is was has had = absu
 
 pub one_opened : (text : List ℕ) → HasOne (IsOpened text)
 one_opened text = gives_one (IsInGrammar text) (IsOpenFault text) open_refusal (one_open text) (no_open_fault text) (one_open_fault text)
+
+-- ---- a text in two parts
+
+-- the first part fails
+pub prints_stops : {O T E : Type 0} {tells : O → Bool} {bytes : O → List ℕ} {is_ended : O → Bool} {faults : O → ℕ} {old new : O} {x : List ℕ} (y : List ℕ) (e : E) → is_ended new ≡ false → WrotePrefix tells bytes old new x →
+    faults old ≤ faults new → Rose (faults old) (faults new) → Prints tells bytes is_ended faults old new (x ++ y) (failed T E e)
+prints_stops y e is_open begun later rose = record { whole = tt; prefix = prefix_more y begun; ended = tt; still_open = is_open; cause = record { later = later; failed = rose } }
+
+-- the first part stands, and the second follows
+pub prints_then : {O T E : Type 0} {tells : O → Bool} {bytes : O → List ℕ} {is_ended : O → Bool} {faults : O → ℕ} {old mid new : O} {x y : List ℕ} (r : Result T E) → Wrote tells bytes old mid x → faults old ≤ faults mid →
+    Prints tells bytes is_ended faults mid new y r → Prints tells bytes is_ended faults old new (x ++ y) r
+prints_then {faults = faults} {old = old} {mid = mid} {new = new} (Ok t) first later next = record {
+  whole = wrote_then first next.whole;
+  prefix = prefix_then first next.prefix;
+  ended = next.ended;
+  still_open = tt;
+  cause = record { later = let then : faults mid ≤ faults new = next.cause.later in omega arith; failed = tt };
+}
+prints_then {faults = faults} {old = old} {mid = mid} {new = new} (Err e) first later next = record {
+  whole = tt;
+  prefix = prefix_then first next.prefix;
+  ended = tt;
+  still_open = next.still_open;
+  cause = record { later = let then : faults mid ≤ faults new = next.cause.later in omega arith; failed = rose_after (faults old) (faults mid) (faults new) later next.cause.failed };
+}
 
 -- ---- a list without the pairs that undo each other
 

@@ -1,5 +1,5 @@
 -- The deck of a source: what a checked source keeps, and what its deck unfolds to.
-use Rattle.std.proofs.Common.{◌≡◌, ℕ, ◌-◌, List, [], ◌∷◌, length, map, Option, Some, None, Ok, refl, sym, ◌∙◌, ap, append-nil}
+use Rattle.std.proofs.Common.{◌≡◌, ℕ, ◌-◌, List, [], ◌∷◌, length, map, Option, Some, None, Result, Ok, refl, sym, ◌∙◌, ap, append-nil}
 use Rattle.sc_deck.specs.Decks.{IsWhole}
 use Rattle.sc_deck.specs.Events.{Event, Enter, Fresh, Apply, Return, after_events, gates_in, fresh_in, flat}
 use Rattle.sc_deck.specs.Modules.{Module}
@@ -28,7 +28,6 @@ use Rattle.sc_top.specs.Stages.{goes}
 use Rattle.sc_top.specs.Watching.{Watcher, asked_of}
 use Rattle.sc_top.specs.declared.fault.Refusal.{Refusal}
 use Rattle.sc_top.proofs.WatchLemmas.{none_asked, none_watch}
-use Rattle.std.specs.Prelude.{Result}
 
 -- ---- what rests on how the deck is made of the instances
 
@@ -103,12 +102,12 @@ headline = record {
       let same = unfolded_text t choice expands in
       let here = goes text _ (holds, within) (accepted_source text t choice accepted) in
       record {
-        hier = goes (modules_of t choice) _ here refl;
+        writes_hier = goes (modules_of t choice) _ here refl;
         gates = unfolded_gates t choice expands;
         unfolds = same;
-        flat = λ limit fits. goes (modules_of t choice) _ (goes (modules_of t choice) _ here (writable limit (modules_of t choice) fits))
+        writes_flat = λ limit fits. goes (modules_of t choice) _ (goes (modules_of t choice) _ here (writable limit (modules_of t choice) fits))
             (ap written (sym (unwatched all (modules_of t choice) ∙ ap done same)));
-        expand = λ texts name limit held_there short deck sound fits.
+        expands = λ texts name limit held_there short deck sound fits.
             goes (modules_of t choice) _ (goes _ _ (held_there, short) (goes (modules_of t choice) _ (sound_text_read (modules_of t choice) deck sound) (writable limit (modules_of t choice) fits)))
             (ap (λ (x : List ℕ). written (done x)) (sym same));
       };

@@ -23,13 +23,13 @@ meaning_text t choice = flat_text (fresh_in (events_of (run t))).qubits (fresh_i
 -- What is so of an accepted source `t` that is held under a name, for each choice and each list of probes.
 pub record HasTexts (held : List ℕ → Option (List ℕ)) (all : List Watcher) (file : List ℕ) (t : TypedSource) (choice : Choice) : Type 0 where
   -- `hier` writes its deck, which unfolds to the gates of its meaning
-  pub hier : Says held all (Hier file choice) (Ok (done (hier (modules_of t choice))))
+  pub writes_hier : Says held all (Hier file choice) (Ok (done (hier (modules_of t choice))))
   pub gates : gates_in (whole (modules_of t choice)) ≡ meaning t choice
   pub unfolds : flat (whole (modules_of t choice)) ≡ meaning_text t choice
   -- `flat` writes exactly the text of these gates, where it is within every limit
-  pub flat : (limit : ℕ) → FitsFlat limit (modules_of t choice) → Says held all (Flat file choice limit false false false false) (Ok (done (meaning_text t choice)))
+  pub writes_flat : (limit : ℕ) → FitsFlat limit (modules_of t choice) → Says held all (Flat file choice limit false false false false) (Ok (done (meaning_text t choice)))
   -- and so does `expand`, over what `hier` wrote, where that is a sound deck and not too long
-  pub expand : (texts : List ℕ → Option (List ℕ)) (written : List ℕ) (limit : ℕ) → texts written ≡ Some (hier (modules_of t choice)) → length (hier (modules_of t choice)) ≤ most_text_bytes →
+  pub expands : (texts : List ℕ → Option (List ℕ)) (written : List ℕ) (limit : ℕ) → texts written ≡ Some (hier (modules_of t choice)) → length (hier (modules_of t choice)) ≤ most_text_bytes →
       IsDeck (modules_of t choice) → IsSound (modules_of t choice) → FitsFlat limit (modules_of t choice) → Says texts all (Expand written limit) (Ok (done (meaning_text t choice)))
 
 -- THE HEADLINE, in its part for `hier` and `flat`

@@ -1,5 +1,5 @@
 //! The large source of a number, and what is told of it.
-ghost use Rattle.std.specs.Prelude.{◌≡◌, ◌-◌, ◌≤◌, ◌++◌, ℕ, Bool, false, List, [], Option, decimal, flat_map, length, IfOk, OnOk};
+ghost use Rattle.std.specs.Prelude.{◌≡◌, ◌-◌, ◌≤◌, ◌++◌, [], false, decimal, flat_map, length, IfOk, OnOk};
 ghost use Rattle.std.specs.List.{range_with_len};
 ghost use Rattle.sc_base.specs.Causes.{HasCause};
 ghost use Rattle.sc_base.specs.Limits.{most_source_bytes};
@@ -19,7 +19,7 @@ use crate::report::Summary;
 use crate::source::build_deck;
 use crate::status::Ending;
 use crate::tallied::summarized;
-use sc_base::{LineBuffer, Memory, Sink, Text, WriteFault};
+use sc_base::{LineBuffer, Memory, Shelf, Sink, Text, WriteFault};
 use sc_elab::Choice;
 use sc_gate::{Times, write_number_line};
 use std::alloc::Global;
@@ -95,13 +95,18 @@ fn push_numbered(text: &mut Text, front: &[u8], number: u32) -> Result<(), Memor
 }
 
 /// Writes the summary of the drill source of `n`, and ends the sink. It looks at no shelf.
-pub(crate) fn carry_drill<O: Sink>(alloc: Global, n: u32, out: &mut O) -> Result<Ending, Fault>
+pub(crate) fn carry_drill<F: Shelf, O: Sink>(
+    alloc: Global,
+    n: u32,
+    shelf: &F,
+    out: &mut O,
+) -> Result<Ending, Fault>
     requires open { O.is_ended out.old ≡ false }
     requires some { 1 ≤ n }
     requires most { n ≤ 50000 }
-    ensures { (S : Type 0) (held : S → List ℕ → Option (List ℕ)) (tells_held : S → Bool) (faults : S → ℕ) (shelf : S) →
-        CarriedOut held tells_held faults O.tells O.bytes O.is_ended O.faults [] (requests.Drill n) shelf shelf out.old out.new result }
+    ensures { CarriedOut F.held F.tells_held F.faults O.tells O.bytes O.is_ended O.faults [] (requests.Drill n) shelf.now shelf.now out.old out.new result }
 {
+    let _ = shelf;
     let source = match drill_source(alloc, n) {
         Ok(source) => source,
         Err(_) => return Err(Fault::Memory),

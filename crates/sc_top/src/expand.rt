@@ -74,7 +74,7 @@ fn print<O: Sink>(expansion: &mut Expansion, out: &mut O) -> Result<(), WriteFau
     requires { O.is_ended out.old ≡ false }
     ensures { Prints O.tells O.bytes O.is_ended O.faults out.old out.new (flat (whole expansion.old)) result }
 {
-    expansion.expander.write(&expansion.deck, out, &mut [])?;
+    expansion.write(out, &mut [])?;
     match out.finish() {
         Ok(()) => Ok(()),
         Err(_) => Err(WriteFault),

@@ -68,7 +68,7 @@ fn print<O: Sink>(
     ensures { let text = flat (whole expansion.old) in let all = watchers rule state probes.old in
         PrintsLate O.tells O.bytes O.is_ended O.faults (AreSome all) out.old out.new text (text ++ probe_lines (gates_in (whole expansion.old)) all) result }
 {
-    match expansion.expander.write(&expansion.deck, out, probes) {
+    match expansion.write(out, probes) {
         Ok(()) => {}
         Err(_) => return Err(Fault::WriteFault),
     }

@@ -29,11 +29,23 @@ impl Asked {
         }
     }
 
+    /// Whether the rule of the probe is asked for.
+    fn wants(self, probe: &Box<dyn Probe>) -> bool
+        ensures { result ≡ asks self (rule probe.now) }
+    {
+        self.asks(probe.rule())
+    }
+
     /// Drops the probes whose rules are not asked for.
     pub(crate) fn keep(self, probes: &mut Vec<Box<dyn Probe>>)
         ensures { probes.new.items ≡ filter (λ p. asks self (rule p)) probes.old.items }
     {
-        probes.retain(|probe| self.asks(probe.rule()));
+        let asked = self;
+        probes.retain(move |probe: &Box<dyn Probe>|
+            ensures { result ≡ asks asked (rule probe.now) }
+        {
+            asked.wants(probe)
+        });
     }
 }
 

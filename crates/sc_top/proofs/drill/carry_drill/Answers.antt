@@ -1,4 +1,3 @@
-use Rattle.std.proofs.Common.{◌≡◌, ℕ, Bool, List, Option, Ok, Err}
 use Rattle.std.proofs.lemmas.Result.{err_from_is_err_and}
 use Rattle.sc_top.specs.Answers.{done}
 use Rattle.sc_top.specs.Drills.{drill_summary}
@@ -8,4 +7,6 @@ use Rattle.sc_top.proofs.OtherLemmas.{took_found}
 use Rattle.sc_top.proofs.drill.carry_drill.Goals as goal
 
 pub returns-in_err-summary : goal.returns-in_err-summary
-returns-in_err-summary g c = ?
+returns-in_err-summary g c =
+    let p = err_from_is_err_and c.from_residual.result c.from_residual.ensures.1 in
+    rw (p.1, p.2) (carried_stops _ c.requires.«open» (took_found g.F.Shelf.held g.F.Shelf.tells_held g.F.Shelf.faults c.args.shelf.now _ (rw (c.as_bytes.ensures, c.in-Ok.ensures.text) at c.in_err-summary.ensures)))
