@@ -1,5 +1,5 @@
 -- The stages of `open`, `reopen`, `cancel` and `drill`: that each has one answer, and that it has one.
-use Rattle.std.proofs.Common.{◌≡◌, ℕ, ◌≤◌, Bool, false, List, ◌++◌, Option, Some, Result, Ok, Err, map, refl, ap, ◌∙◌, arith}
+use Rattle.std.proofs.Common.{◌≡◌, ℕ, ◌≤◌, Bool, false, List, ◌++◌, Option, Some, Result, Ok, Err, map, refl, ap, ◌∙◌, subst, arith}
 use Rattle.sc_base.proofs.CauseLemmas.{rose_after}
 use Rattle.sc_base.proofs.OutputLemmas.{wrote_then, prefix_then, prefix_more}
 use Rattle.sc_base.specs.Causes.{Rose}
@@ -87,6 +87,11 @@ one_shortened all modules = then_one (one_listed ones modules) (λ list listed. 
 -- a deck within every limit has such a text
 pub has_shortened : (all : List Watcher) (modules : List Module) → IsListable ones modules → IsShortened all modules (Ok (shortened_text all (list_of modules)))
 has_shortened all modules fits = goes (list_of modules) _ (has_list ones modules fits) refl
+
+-- the same for probes that are the same
+pub took_asked : {F A : Type 0} {held : F → List ℕ → Option (List ℕ)} {tells : F → Bool} {faults : F → ℕ} {old new : F} {r : Result A Fault} (Stage : List Watcher → (List ℕ → Option (List ℕ)) → Result A Refusal → Type 0) (ws vs : List Watcher) → ws ≡ vs →
+    Took held tells faults (Stage ws) old new r → Took held tells faults (Stage vs) old new r
+took_asked {held = held} {tells = tells} {faults = faults} {old = old} {new = new} {r = r} Stage ws vs same took = subst (λ (us : List Watcher). Took held tells faults (Stage us) old new r) same took
 
 -- ---- a drill
 
