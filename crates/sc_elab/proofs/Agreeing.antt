@@ -1,5 +1,5 @@
 -- The names of a body have the wires that the checks say: where wires are added, looked up and declared, and scope by scope.
-use Rattle.std.proofs.Common.{◌≡◌, ◌⊎◌, inl, inr, ℕ, zero, suc, ◌+◌, ◌<◌, ◌≤◌, Bool, true, false, cond, List, [], ◌∷◌, ◌++◌, length, drop, Option, Some, None, Result, Ok, Err, refl, sym, ap, ◌∙◌, subst, arith}
+use Rattle.std.proofs.Common.{◌≡◌, ◌⊎◌, inl, inr, ℕ, zero, suc, ◌<◌, ◌≤◌, Bool, true, false, cond, List, [], ◌∷◌, ◌++◌, drop, Option, Some, None, Ok, refl, sym, ap, ◌∙◌, subst, arith}
 use Rattle.std.specs.Prelude.{ℤ, pos, negsuc, slice_get}
 use Rattle.std.specs.List.{AllByRecursion}
 use Rattle.std.specs.Cmp.Lexicographic.{same_text}
@@ -19,13 +19,11 @@ use Rattle.sc_syntax.specs.declared.NumSort.TheVariants as num
 use Rattle.sc_types.specs.Accepted.{IsSuited}
 use Rattle.sc_types.specs.Declarations.{is_pi, or_pi}
 use Rattle.sc_types.specs.Scopes.{Known, Stack, known, kind_here, kind_in, kinds_in}
-use Rattle.sc_meaning.specs.declared.fault.ElabFault.{ElabFault}
 use Rattle.sc_meaning.specs.declared.want.Want.{Want}
 use Rattle.sc_meaning.specs.declared.want.Want.TheVariants as want
 use Rattle.sc_meaning.specs.States.{Wired, wires_named, with_wires}
 use Rattle.sc_elab.specs.Typings.{IsOf, AreOf, IsOneOf, HasKind, StandsFor, ScopeAgrees, Agree}
 use Rattle.sc_meaning.specs.Values.{there, element}
-use Rattle.sc_meaning.proofs.Spanned.{wire}
 
 -- ---- more wires
 

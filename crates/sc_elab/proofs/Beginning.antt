@@ -1,5 +1,5 @@
 -- How a statement begins: what it comes to, and what is put on the list.
-use Rattle.std.proofs.Common.{◌≡◌, ℕ, zero, suc, ◌+◌, ◌<◌, ◌≤◌, Bool, true, false, List, [], ◌∷◌, ◌++◌, length, Option, Some, None, Result, Ok, Err, get_or, refl, sym, ap, ◌∙◌, subst, arith, length-append}
+use Rattle.std.proofs.Common.{◌≡◌, ℕ, suc, ◌+◌, ◌<◌, ◌≤◌, true, false, List, [], ◌∷◌, ◌++◌, length, Option, Some, None, Result, Ok, Err, get_or, refl, sym, ap, ◌∙◌, arith, length-append}
 use Rattle.std.specs.Prelude.{option_map, map}
 use Rattle.std.specs.Borrow.{Bor}
 use Rattle.std.specs.List.{between}
@@ -23,8 +23,6 @@ use Rattle.sc_syntax.specs.declared.Stmt.{Stmt}
 use Rattle.sc_syntax.specs.declared.Act.{Act, Wires, Numbers, Set, Measure, Call, If, While, For, Block, Empty}
 use Rattle.sc_syntax.specs.Alike.{PureExpr, PureAct, pure_expr, pure_decl, pure_init, pure_act, pure_stmt_list}
 use Rattle.sc_syntax.proofs.PureRows.{pure_block}
-use Rattle.sc_types.specs.Accepted.{Taken, names_after}
-use Rattle.sc_types.specs.Scopes.{Known, Stack}
 use Rattle.sc_meaning.specs.declared.choice.Choice.{Choice}
 use Rattle.sc_meaning.specs.declared.fault.ElabFault.{ElabFault}
 use Rattle.sc_elab.specs.declared.frame.Frame.{Frame}
@@ -34,14 +32,14 @@ use Rattle.sc_elab.specs.declared.todo.Rounds.{Rounds}
 use Rattle.sc_elab.specs.declared.todo.Request.{Request}
 use Rattle.sc_meaning.specs.Arguments.{Passed, prepared}
 use Rattle.sc_elab.specs.Callees.{Requests}
-use Rattle.sc_meaning.specs.Definitions.{Definition, Program, definition}
+use Rattle.sc_meaning.specs.Definitions.{Definition, Program}
 use Rattle.sc_elab.specs.Beginnings.{Begun}
-use Rattle.sc_elab.specs.Fine.{IsFineAct, AreFineStmts, IfFine, IsFinePart, AreFineParts}
+use Rattle.sc_elab.specs.Folding.{written}
 use Rattle.sc_elab.specs.Frames.{view, made, Advanced, StopsAt}
 use Rattle.sc_elab.specs.Gating.{measure_on, call_on}
 use Rattle.sc_meaning.specs.Local.{ran}
 use Rattle.sc_meaning.specs.Outcomes.{Outcome, Done, Stopped, then_do, given, leaving}
-use Rattle.sc_elab.specs.Pending.{held_by, round_of, looped, if_on, for_on, block_on, doing, pending, asked, after_asked, leaves, to_do, after_round}
+use Rattle.sc_elab.specs.Pending.{held_by, round_of, looped, if_on, for_on, block_on, doing, pending, asked, leaves, to_do, after_round}
 use Rattle.sc_meaning.specs.Run.{Callee, declare_wires, declare_numbers, set_number, step, act, acts, maybe, otherwise, choose, finish, loop, back_in, enter_with, call_named}
 use Rattle.sc_meaning.specs.States.{State, with_scope, without_scope, inside}
 use Rattle.sc_elab.specs.Stepping.{Steps, holds}
@@ -66,46 +64,24 @@ leaves_more todo todo' ts is = ap leaves is ∙ leaves_both todo ts
 pub length_more : (todo todo' ts : List Todo) → todo' ≡ todo ++ ts → length todo' ≡ length todo + length ts
 length_more todo todo' ts is = ap length is ∙ length-append todo ts
 
-pub fine_more : (taken : Taken) (todo todo' ts : List Todo) → todo' ≡ todo ++ ts → AreFineParts taken todo → AreFineParts taken ts → AreFineParts taken todo'
-fine_more taken todo todo' ts is h k = subst (AreFineParts taken) (sym is) (both todo h)
-  where
-    both : (todo : List Todo) → AreFineParts taken todo → AreFineParts taken (todo ++ ts)
-    both [] h = k
-    both (t ∷ todo) h = (h.0, both todo h.1)
-
 -- nothing is put on the list
-pub begun_still : (P : Taken → Type 0) (f g : Frame) (todo : List Todo) → g.steps ≡ f.steps → length g.numbers ≡ length f.numbers → Begun P f todo g todo
-begun_still P f g todo steps scopes = record { steps = steps; few = omega arith; scopes = omega arith; fine = λ taken p h. h }
+pub begun_still : (f g : Frame) (todo : List Todo) → g.steps ≡ f.steps → length g.numbers ≡ length f.numbers → Begun f todo g todo
+begun_still f g todo steps scopes = record { steps = steps; few = omega arith; scopes = omega arith }
 
 -- parts are put there
-pub begun_parts : (P : Taken → Type 0) (f : Frame) (todo todo' ts : List Todo) → todo' ≡ todo ++ ts → leaves ts ≡ 0 → length ts ≤ 3
-    → ((taken : Taken) → P taken → AreFineParts taken ts) → Begun P f todo f todo'
-begun_parts P f todo todo' ts is none few fine =
+pub begun_parts : (f : Frame) (todo todo' ts : List Todo) → todo' ≡ todo ++ ts → leaves ts ≡ 0 → length ts ≤ 3 → Begun f todo f todo'
+begun_parts f todo todo' ts is none few =
     let l : length todo' ≡ length todo + length ts = length_more todo todo' ts is in
     let s : leaves todo' ≡ leaves todo + leaves ts = leaves_more todo todo' ts is in
-    record { steps = refl; few = omega arith; scopes = omega arith; fine = λ taken p h. fine_more taken todo todo' ts is h (fine taken p) }
+    record { steps = refl; few = omega arith; scopes = omega arith }
 
 -- a scope is entered
-pub begun_inside : (P : Taken → Type 0) (f g : Frame) (todo todo' ts : List Todo) → view g ≡ with_scope (view f) → todo' ≡ todo ++ Leave ∷ ts → leaves ts ≡ 0 → length ts ≤ 2
-    → ((taken : Taken) → P taken → AreFineParts taken ts) → Begun P f todo g todo'
-begun_inside P f g todo todo' ts v is none few fine =
+pub begun_inside : (f g : Frame) (todo todo' ts : List Todo) → view g ≡ with_scope (view f) → todo' ≡ todo ++ Leave ∷ ts → leaves ts ≡ 0 → length ts ≤ 2 → Begun f todo g todo'
+begun_inside f g todo todo' ts v is none few =
     let n : length g.numbers ≡ suc (length f.numbers) = ap (λ (s : State). length s.numbers) v in
     let l : length todo' ≡ length todo + length (Leave ∷ ts) = length_more todo todo' (Leave ∷ ts) is in
     let s : leaves todo' ≡ leaves todo + leaves (Leave ∷ ts) = leaves_more todo todo' (Leave ∷ ts) is in
-    record {
-      steps = ap (λ (s : State). s.steps) v;
-      few = omega arith;
-      scopes = omega arith;
-      fine = λ taken p h. fine_more taken todo todo' (Leave ∷ ts) is h (tt, fine taken p);
-    }
-
--- the same of another statement
-pub begun_from : (P Q : Taken → Type 0) (f g : Frame) (todo todo' : List Todo) → ((taken : Taken) → P taken → Q taken) → Begun Q f todo g todo' → Begun P f todo g todo'
-begun_from P Q f g todo todo' weaker b = record { steps = b.steps; few = b.few; scopes = b.scopes; fine = λ taken p h. b.fine taken (weaker taken p) h }
-
-pub fine_to_do : (taken : Taken) (stmt : Option (Bor Stmt)) → IfFine taken (option_copied stmt) → AreFineParts taken (to_do stmt)
-fine_to_do taken None h = tt
-fine_to_do taken (Some p) h = (h, tt)
+    record { steps = ap (λ (s : State). s.steps) v; few = omega arith; scopes = omega arith }
 
 pub few_to_do : (stmt : Option (Bor Stmt)) → (length (to_do stmt) ≤ 1) × (leaves (to_do stmt) ≡ 0)
 few_to_do None = (omega arith, refl)
@@ -119,10 +95,10 @@ pub advanced_first : (program : Program) (choice : Choice) (part part' : Callee 
     → ((call : Callee) → part call (view f) ≡ then_do (part' call (view f')) (pending program call ts finish))
     → Advanced program choice part' f' both r g todo' → Advanced program choice part f todo r g todo'
 advanced_first program choice part part' f f' g todo ts both todo' r items more is h call go ws rest deck keys few =
-    (λ i. ran choice (made ws (sym items i) rest deck keys) (then_do (is call i) (pending program call todo go)))
-    ∙ ap (ran choice (made ws f'.body.items rest deck keys)) (then_then (part' call (view f')) (pending program call ts finish) (pending program call todo go))
-    ∙ (λ i. ran choice (made ws f'.body.items rest deck keys) (then_do (part' call (view f')) (λ a. sym (pending_more program call todo ts go a) i)))
-    ∙ (λ i. ran choice (made ws f'.body.items rest deck keys) (then_do (part' call (view f')) (pending program call (sym more i) go)))
+    (λ i. ran choice (made ws (written (sym items i)) rest deck keys) (then_do (is call i) (pending program call todo go)))
+    ∙ ap (ran choice (made ws (written f'.body.items) rest deck keys)) (then_then (part' call (view f')) (pending program call ts finish) (pending program call todo go))
+    ∙ (λ i. ran choice (made ws (written f'.body.items) rest deck keys) (then_do (part' call (view f')) (λ a. sym (pending_more program call todo ts go a) i)))
+    ∙ (λ i. ran choice (made ws (written f'.body.items) rest deck keys) (then_do (part' call (view f')) (pending program call (sym more i) go)))
     ∙ h call go ws rest deck keys few
 
 -- the first part is refused
@@ -130,15 +106,15 @@ pub stops_first : (choice : Choice) (part part' rest : Callee → State → Outc
     → f'.body.items ≡ f.body.items → ((call : Callee) → part call (view f) ≡ then_do (part' call (view f')) (rest call))
     → StopsAt choice part' f' fault → StopsAt choice part f fault
 stops_first choice part part' others f f' fault items is h call ws rest deck keys few =
-    (λ i. ran choice (made ws (sym items i) rest deck keys) (is call i))
-    ∙ ran_stop choice (made ws f'.body.items rest deck keys) (part' call (view f')) fault (others call) (h call ws rest deck keys few)
+    (λ i. ran choice (made ws (written (sym items i)) rest deck keys) (is call i))
+    ∙ ran_stop choice (made ws (written f'.body.items) rest deck keys) (part' call (view f')) fault (others call) (h call ws rest deck keys few)
 
 -- the same of a part that is another
 pub stops_from : (choice : Choice) (part part' : Callee → State → Outcome State) (f f' : Frame) (fault : ElabFault)
     → f'.body.items ≡ f.body.items → ((call : Callee) → part call (view f) ≡ part' call (view f'))
     → StopsAt choice part' f' fault → StopsAt choice part f fault
 stops_from choice part part' f f' fault items is h call ws rest deck keys few =
-    (λ i. ran choice (made ws (sym items i) rest deck keys) (is call i)) ∙ h call ws rest deck keys few
+    (λ i. ran choice (made ws (written (sym items i)) rest deck keys) (is call i)) ∙ h call ws rest deck keys few
 
 -- a part that is a fault
 pub stops_at : (choice : Choice) (part : Callee → State → Outcome State) (f : Frame) (fault : ElabFault)
@@ -354,69 +330,3 @@ pub acts_first : (program : Program) (call : Callee) (xs : List Stmt) (first : B
 acts_first program call xs first rest s is =
     ap (λ (ys : List Stmt). acts program call (pure_stmt_list ys) s) is
     ∙ (λ i. then_do (doing program call (Do first) s) (λ u. sym (then_none (acts program call (pure_stmt_list rest.now) u)) i))
-
--- ---- accepted statements
-
-fine_if_is : (taken : Taken) (e : Expr) (b : Box Stmt Global) (held : Option (Box Stmt Global)) → IsFineAct taken (pure_act (If e b held))
-    → IsFineAct taken (pure_act b.value.act) × IfFine taken (option_map (λ h. h.value) held)
-fine_if_is taken e b None h = (record { outer = h.here ∷ h.outer; here = []; fine = h.fine.1 }, tt)
-fine_if_is taken e b (Some s) h =
-    (record { outer = h.here ∷ h.outer; here = []; fine = h.fine.1 }, record { outer = h.here ∷ h.outer; here = []; fine = h.fine.2 })
-
-pub fine_if : (taken : Taken) (task : Act) (e : Expr) (b : Box Stmt Global) (held : Option (Box Stmt Global)) (body : Stmt) (other : Option Stmt)
-    → task ≡ If e b held → body ≡ b.value → other ≡ option_map (λ h. h.value) held → IsFineAct taken (pure_act task)
-    → IsFineAct taken (pure_act body.act) × IfFine taken other
-fine_if taken task e b held body other is body_is other_is h =
-    let parts : IsFineAct taken (pure_act b.value.act) × IfFine taken (option_map (λ h. h.value) held) =
-    fine_if_is taken e b held (subst (λ (a : Act). IsFineAct taken (pure_act a)) is h) in
-    (subst (λ (s : Stmt). IsFineAct taken (pure_act s.act)) (sym body_is) parts.0, subst (IfFine taken) (sym other_is) parts.1)
-
-pub fine_while : (taken : Taken) (task : Act) (e : Expr) (b : Box Stmt Global) (body : Stmt) → task ≡ While e b → body ≡ b.value → IsFineAct taken (pure_act task) → IsFineAct taken (pure_act body.act)
-fine_while taken task e b body is body_is h =
-    let w : IsFineAct taken (pure_act (While e b)) = subst (λ (a : Act). IsFineAct taken (pure_act a)) is h in
-    subst (λ (s : Stmt). IsFineAct taken (pure_act s.act)) (sym body_is) (record { outer = w.here ∷ w.outer; here = []; fine = w.fine.1 })
-
-fine_for_is : (taken : Taken) (start : Option (Box Stmt Global)) (test : Option Expr) (advance : Option (Box Stmt Global)) (b : Box Stmt Global) → IsFineAct taken (pure_act (For start test advance b))
-    → IfFine taken (option_map (λ h. h.value) start) × (IsFineAct taken (pure_act b.value.act) × IfFine taken (option_map (λ h. h.value) advance))
-fine_for_is taken None test None b h = (tt, (record { outer = [] ∷ h.here ∷ h.outer; here = []; fine = h.fine.4 }, tt))
-fine_for_is taken None test (Some a) b h =
-    (tt, (record { outer = [] ∷ h.here ∷ h.outer; here = []; fine = h.fine.4 }, record { outer = h.here ∷ h.outer; here = []; fine = h.fine.3 }))
-fine_for_is taken (Some s) test None b h =
-    let names : List Known = names_after [] (pure_act s.value.act) in
-    (record { outer = h.here ∷ h.outer; here = []; fine = h.fine.0 }, (record { outer = names ∷ h.here ∷ h.outer; here = []; fine = h.fine.4 }, tt))
-fine_for_is taken (Some s) test (Some a) b h =
-    let names : List Known = names_after [] (pure_act s.value.act) in (
-      record { outer = h.here ∷ h.outer; here = []; fine = h.fine.0 },
-      (record { outer = names ∷ h.here ∷ h.outer; here = []; fine = h.fine.4 }, record { outer = h.here ∷ h.outer; here = names; fine = h.fine.3 }),
-    )
-
-pub fine_for : (taken : Taken) (task : Act) (start : Option (Box Stmt Global)) (test : Option Expr) (advance : Option (Box Stmt Global)) (b : Box Stmt Global) (first : Option Stmt) (r : Rounds)
-    → task ≡ For start test advance b → first ≡ option_map (λ h. h.value) start → r.body.now ≡ b.value → option_copied r.advance ≡ option_map (λ h. h.value) advance
-    → IsFineAct taken (pure_act task) → IfFine taken first × IsFinePart taken (Loop r)
-fine_for taken task start test advance b first r is first_is body_is advance_is h =
-    let parts : IfFine taken (option_map (λ h. h.value) start) × (IsFineAct taken (pure_act b.value.act) × IfFine taken (option_map (λ h. h.value) advance)) =
-    fine_for_is taken start test advance b (subst (λ (a : Act). IsFineAct taken (pure_act a)) is h) in (
-      subst (IfFine taken) (sym first_is) parts.0,
-      (subst (λ (s : Stmt). IsFineAct taken (pure_act s.act)) (sym body_is) parts.1.0, subst (IfFine taken) (sym advance_is) parts.1.1),
-    )
-
-pub fine_block : (taken : Taken) (task : Act) (stmts : Vec Stmt Global) (xs : List Stmt) → task ≡ Block stmts → xs ≡ stmts.items → IsFineAct taken (pure_act task) → AreFineStmts taken (pure_stmt_list xs)
-fine_block taken task stmts xs is xs_is h =
-    let w : IsFineAct taken (PureAct.block (pure_stmt_list stmts.items)) =
-    subst (IsFineAct taken) (pure_block stmts) (subst (λ (a : Act). IsFineAct taken (pure_act a)) is h) in
-    subst (λ (ys : List Stmt). AreFineStmts taken (pure_stmt_list ys)) (sym xs_is) (record { outer = w.here ∷ w.outer; here = []; fine = w.fine })
-
--- the first of statements, and the others
-pub fine_first : (taken : Taken) (xs : List Stmt) (first : Stmt) (rest : List Stmt) → xs ≡ first ∷ rest → AreFineStmts taken (pure_stmt_list xs)
-    → IsFineAct taken (pure_act first.act) × AreFineStmts taken (pure_stmt_list rest)
-fine_first taken xs first rest is h =
-    let w : AreFineStmts taken (pure_stmt_list (first ∷ rest)) = subst (λ (ys : List Stmt). AreFineStmts taken (pure_stmt_list ys)) is h in
-    (record { outer = w.outer; here = w.here; fine = w.fine.0 }, record { outer = w.outer; here = names_after w.here (pure_act first.act); fine = w.fine.1 })
-
--- what follows the body of a round
-pub fine_round : (taken : Taken) (r : Rounds) → IsFinePart taken (Loop r) → AreFineParts taken (after_round r)
-fine_round taken r h = (h, by r.advance h.1)
-  where
-    by : (advance : Option (Bor Stmt)) → IfFine taken (option_copied advance) → AreFineParts taken (to_do advance ++ Leave ∷ [])
-    by None h = (tt, tt)
-    by (Some p) h = (h, (tt, tt))

@@ -1,25 +1,25 @@
 -- Declarations, as the code makes them.
-use Rattle.std.proofs.Common.{◌≡◌, ℕ, zero, suc, ◌+◌, ◌-◌, ◌<◌, ◌≤◌, Bool, true, false, cond, List, [], ◌∷◌, ◌++◌, length, Option, Some, None, Result, Ok, Err, refl, sym, ap, ◌∙◌, arith}
-use Rattle.std.specs.Prelude.{ℤ, pos, negsuc, nat_le, map, option_map}
+use Rattle.std.proofs.Common.{◌≡◌, ℕ, zero, suc, ◌+◌, ◌<◌, ◌≤◌, Bool, true, false, cond, List, [], ◌∷◌, refl, ap, ◌∙◌, arith}
+use Rattle.std.specs.Prelude.{pos, nat_le}
 use Rattle.std.proofs.lemmas.Bool.Decides.{nat_tests}
 use Rattle.sc_base.specs.declared.Class.{Class}
 use Rattle.sc_base.specs.declared.Class.TheVariants.{Q, C}
 use Rattle.sc_gate.specs.Numbers.{Numbers, number_of, with_more, both}
 use Rattle.sc_syntax.specs.declared.Name.{Name}
-use Rattle.sc_deck.specs.declared.item.Item.{Item}
 use Rattle.sc_deck.specs.declared.item.Item.TheVariants as item
 use Rattle.sc_deck.specs.Bodies.{Contents, wires_of, with_item}
 use Rattle.sc_deck.specs.Events.{Fresh}
 use Rattle.sc_deck.specs.Unfolding.{wires_from}
 use Rattle.sc_deck.proofs.BodyLemmas.{after_items-push}
 use Rattle.sc_meaning.specs.declared.choice.Choice.{Choice}
-use Rattle.sc_meaning.specs.declared.fault.ElabFault.{ElabFault}
-use Rattle.sc_meaning.specs.declared.fault.ElabFault.TheVariants.{TooWide, BadSize}
+use Rattle.sc_meaning.specs.declared.fault.ElabFault.TheVariants.{TooWide}
 use Rattle.sc_elab.specs.declared.frame.Frame.{Frame}
+use Rattle.sc_elab.specs.Folding.{written}
 use Rattle.sc_elab.specs.Frames.{view, names_of, Runs, IsRefused}
 use Rattle.sc_meaning.specs.Outcomes.{Outcome, Done, Stopped}
 use Rattle.sc_meaning.specs.Run.{make_wires}
 use Rattle.sc_meaning.specs.States.{State, with_wires, with_fresh}
+use Rattle.sc_elab.proofs.Folding.{written_more}
 use Rattle.sc_elab.proofs.Going.{runs_fresh, runs_from, refused_from, refused_at}
 
 pub both_more : (c : Class) (n : ℕ) (numbers : Numbers) → both (with_more c n numbers) ≡ both numbers + n
@@ -68,7 +68,7 @@ pub make_runs : (choice : Choice) (c : Class) (name : Name) (n : ℕ) (f g : Fra
 make_runs choice c name n f g some room body numbers steps names =
     runs_from choice (make_wires c name (pos n) (view f)) (Done (Fresh c n ∷ []) (with_fresh c name.text n (view f))) f g
     (make_is c name n (view f) some room)
-    (runs_fresh choice c n (with_fresh c name.text n (view f)) f g (ap (λ (b : Contents). b.items) body) (view_more c name.text n f g body numbers steps names))
+    (runs_fresh choice c n (with_fresh c name.text n (view f)) f g (ap (λ (b : Contents). written b.items) body ∙ written_more f.body.items (item.Fresh c n) refl) (view_more c name.text n f g body numbers steps names))
 
 pub make_wide : (choice : Choice) (c : Class) (name : Name) (n : ℕ) (f : Frame) → 1 ≤ n → 65536 < both (wires_of f.body) + n
     → IsRefused choice (make_wires c name (pos n) (view f)) f (TooWide name.place)

@@ -1,5 +1,5 @@
 -- The evaluated arguments: the first repeated wire stands in the first argument that holds a wire of an earlier one.
-use Rattle.std.proofs.Common.{◌≡◌, ◌≢◌, ℕ, zero, suc, ◌+◌, ◌-◌, ◌<◌, ◌≤◌, Bool, true, false, cond, ◌⊎◌, inl, inr, List, [], ◌∷◌, ◌++◌, length, take, Option, Some, None, Result, Ok, Err, refl, sym, ap, ◌∙◌, subst, arith, append_assoc, append-nil, length-append, true≢false}
+use Rattle.std.proofs.Common.{◌≡◌, ℕ, zero, suc, ◌+◌, ◌-◌, ◌<◌, ◌≤◌, Bool, true, false, cond, ◌⊎◌, inl, inr, List, [], ◌∷◌, ◌++◌, length, take, Some, Ok, Err, refl, sym, ap, ◌∙◌, subst, arith, append_assoc, append-nil, length-append, true≢false}
 use Rattle.std.specs.Prelude.{nat_lt, slice_get, ◌||◌}
 use Rattle.std.specs.List.{list_any}
 use Rattle.std.proofs.lemmas.Bool.{cases_lt, or_cases}
@@ -7,10 +7,9 @@ use Rattle.std.proofs.lemmas.Bool.Decides.{nat_tests}
 use Rattle.sc_base.specs.declared.Place.{Place}
 use Rattle.sc_gate.specs.declared.gate.Wire.{Wire}
 use Rattle.sc_gate.specs.Gates.{IsNew, AreDistinct}
-use Rattle.sc_gate.specs.Wires.{same_wire, member}
+use Rattle.sc_gate.specs.Wires.{member}
 use Rattle.sc_gate.proofs.WireLemmas.{member_here, member_later, member_cases}
 use Rattle.sc_deck.specs.Repeats.{StandsEarlier}
-use Rattle.sc_meaning.specs.declared.fault.ElabFault.{ElabFault}
 use Rattle.sc_meaning.specs.declared.fault.ElabFault.TheVariants.{Repeated}
 use Rattle.sc_meaning.specs.Arguments.{Passed, wires_of, distinct_after}
 use Rattle.sc_elab.specs.declared.arguments.Evaluated.{Evaluated}

@@ -1,7 +1,6 @@
 -- A call of a checked source enters a key that its definition takes.
-use Rattle.std.proofs.Common.{◌≡◌, ◌⊎◌, inl, inr, ℕ, zero, suc, ◌+◌, ◌<◌, ◌≤◌, Bool, true, false, cond, List, [], ◌∷◌, ◌++◌, length, map, get_or, Option, Some, None, Result, Ok, Err, refl, sym, ap, ◌∙◌, subst, arith, length-append}
+use Rattle.std.proofs.Common.{◌≡◌, ◌⊎◌, inl, inr, ℕ, zero, suc, ◌+◌, ◌≤◌, Bool, true, false, cond, List, [], ◌∷◌, ◌++◌, length, map, get_or, Option, Some, None, Ok, refl, sym, ap, ◌∙◌, subst, arith, length-append}
 use Rattle.std.specs.Prelude.{ℤ, pos, find, option_map, replicate, fold, flat_map, All}
-use Rattle.std.specs.Ordering.{int_eq}
 use Rattle.std.proofs.lemmas.Bool.Decides.{Decides-int_eq}
 use Rattle.std.proofs.lemmas.List.{length-map}
 use Rattle.sc_base.specs.Texts.{same}
@@ -24,13 +23,11 @@ use Rattle.sc_types.specs.Accepted.{Taken, Fits, AllFit, IsCall, IsAcceptedPart,
 use Rattle.sc_types.specs.Scopes.{Stack, kinds_in}
 use Rattle.sc_types.specs.Typing.{TypedSource}
 use Rattle.sc_types.specs.Wires.{suits, suits_indexed}
-use Rattle.sc_meaning.specs.declared.fault.ElabFault.{ElabFault}
 use Rattle.sc_meaning.specs.declared.fault.ElabFault.TheVariants.{BadLength}
 use Rattle.sc_meaning.specs.declared.want.Want.{Want}
 use Rattle.sc_meaning.specs.declared.want.Want.TheVariants as want
 use Rattle.sc_meaning.specs.Arguments.{Passed, want_of, wants_of, args_of, wires_of, pass, pass_all, lengths_of, has_length, of_lengths, distinct_after, prepared}
 use Rattle.sc_meaning.specs.Definitions.{Definition, name_of, definition}
-use Rattle.sc_elab.specs.FunctionBodies.{HasWidths}
 use Rattle.sc_meaning.specs.Programs.{function_of, definition_of, definitions, program_of}
 use Rattle.sc_meaning.specs.States.{State}
 use Rattle.sc_elab.specs.Typings.{IsTyped, PassedFits, AllPassedFit, ArgsFit, Takes, IsEntering}

@@ -1,18 +1,24 @@
 -- A body with its calls, part by part.
-use Rattle.std.proofs.Common.{◌≡◌, ℕ, zero, suc, ◌+◌, ◌<◌, ◌≤◌, Bool, true, false, cond, List, [], ◌∷◌, ◌++◌, length, Option, Some, None, Result, Ok, Err, refl, sym, ap, ◌∙◌, subst, arith}
-use Rattle.std.specs.Prelude.{nat_lt}
+use Rattle.std.proofs.Common.{◌≡◌, ℕ, ◌+◌, ◌*◌, ◌≤◌, Bool, true, false, cond, List, [], ◌∷◌, ◌++◌, length, Option, Some, None, Result, Ok, Err, refl, sym, ap, ◌∙◌, subst, arith}
+use Rattle.std.specs.Prelude.{map, slice_get, IsSomeAnd}
+use Rattle.std.specs.Option.{option_map}
 use Rattle.std.specs.Borrow.{Bor}
-use Rattle.std.proofs.lemmas.Bool.Decides.{nat_tests}
 use Rattle.sc_gate.specs.declared.gate.Wire.{Wire}
+use Rattle.sc_gate.specs.Gates.{class_of}
 use Rattle.sc_gate.specs.Numbers.{Numbers, both}
 use Rattle.sc_deck.specs.declared.key.Key.{Key}
 use Rattle.sc_deck.specs.declared.item.Item.{Item}
 use Rattle.sc_deck.specs.declared.item.Item.TheVariants as item
-use Rattle.sc_deck.specs.Bodies.{Contents, wires_of, with_item}
-use Rattle.sc_deck.specs.Events.{Event}
+use Rattle.sc_deck.specs.Bodies.{Contents, wires_of}
+use Rattle.sc_deck.specs.Decks.{CallFits, CallsFit}
+use Rattle.sc_deck.specs.Keys.{param_classes}
+use Rattle.sc_deck.specs.Modules.{Module, key_of}
+use Rattle.sc_deck.specs.Turns.{last_turns, with_folded}
 use Rattle.sc_deck.proofs.BodyLemmas.{after_items-push}
+use Rattle.sc_deck.proofs.FoldLaws.{with_folded-stands}
 use Rattle.sc_syntax.specs.declared.Stmt.{Stmt}
 use Rattle.sc_syntax.specs.Alike.{pure_stmt_list}
+use Rattle.sc_types.specs.Typing.{TypedSource}
 use Rattle.sc_meaning.proofs.Opening.{few_is}
 use Rattle.sc_meaning.specs.declared.choice.Choice.{Choice}
 use Rattle.sc_meaning.specs.declared.fault.ElabFault.{ElabFault}
@@ -23,14 +29,18 @@ use Rattle.sc_elab.specs.declared.todo.Todo.{Todo}
 use Rattle.sc_elab.specs.declared.todo.Todo.TheVariants.{Rest}
 use Rattle.sc_elab.specs.declared.todo.Request.{Request}
 use Rattle.sc_meaning.specs.Definitions.{Program}
+use Rattle.sc_elab.specs.Folding.{written, written_modules, IsFolded, HasRoom}
 use Rattle.sc_elab.specs.Frames.{view, made, Advanced, StopsAt}
-use Rattle.sc_meaning.specs.Local.{Half, Made, make, with_half, ran}
-use Rattle.sc_elab.specs.Machines.{kept, around, IsCalled, IsRefusedCall, RunsOn, IsRefusedOn}
+use Rattle.sc_meaning.specs.Local.{Half, Made, make, ran}
+use Rattle.sc_elab.specs.Machines.{around, IsCalled, IsRefusedCall, RunsOn, IsRefusedOn}
 use Rattle.sc_meaning.specs.Outcomes.{Outcome, Done, Stopped, then_do, leaving}
 use Rattle.sc_elab.specs.Pending.{doing, pending, asked, after_asked}
 use Rattle.sc_meaning.specs.Run.{Callee, finish, back_in, acts}
 use Rattle.sc_meaning.specs.States.{State}
 use Rattle.sc_meaning.specs.Values.{◌>>=◌}
+use Rattle.sc_elab.specs.Typings.{IsTyped, IsTypedBody}
+use Rattle.sc_elab.proofs.FoldedDecks.{calls_append}
+use Rattle.sc_elab.proofs.Folding.{FoldsIn, folds_one, turns_more}
 use Rattle.sc_elab.proofs.PendingLaws.{pending_last}
 use Rattle.sc_meaning.proofs.Ran.{many, then_none, ran_next, ran_stop, ran_done}
 
@@ -64,7 +74,7 @@ pub comes_advanced : (choice : Choice) (program : Program) (call : Callee) (whol
     → (ws : List Wire) (rest : List Half) → ran choice (around ws rest m0 f0) whole ≡ ran choice (around ws rest m g) (after_asked call r (pending program call todo' finish) (view g))
 comes_advanced choice program call whole m0 m f0 f g todo old todo' next r room is comes adv ws rest =
     comes_last choice program call whole m0 m f0 f todo old next is comes ws rest
-    ∙ adv call finish ws rest m.deck m.entered.keys (few_is (length m.entered.keys) room)
+    ∙ adv call finish ws rest (written_modules m.deck) m.entered.keys (few_is (length m.entered.keys) room)
 
 -- without a call it goes on
 pub comes_on : (choice : Choice) (program : Program) (call : Callee) (whole : Outcome State) (m0 m : Machine) (f0 f g : Frame) (todo old todo' : List Todo) (next : Todo)
@@ -89,7 +99,7 @@ pub comes_stop : (choice : Choice) (program : Program) (call : Callee) (whole : 
 comes_stop choice program call whole m0 m f0 f todo old next fault room is comes stops ws rest =
     comes_last choice program call whole m0 m f0 f todo old next is comes ws rest
     ∙ ran_stop choice (around ws rest m f) (doing program call next (view f)) fault (pending program call old finish)
-    (stops call ws rest m.deck m.entered.keys (few_is (length m.entered.keys) room))
+    (stops call ws rest (written_modules m.deck) m.entered.keys (few_is (length m.entered.keys) room))
 
 -- a call is refused
 pub comes_refused : (choice : Choice) (program : Program) (call : Callee) (whole : Outcome State) (m0 m : Machine) (f0 f g : Frame) (todo old todo' : List Todo) (next : Todo) (r : Request) (fault : ElabFault)
@@ -121,27 +131,57 @@ ran_leaving {A} {B} choice m g (Stopped x f) =
     let q : Result (B × Made) ElabFault = Err f in
     leaving_by g (many (make choice x m)) r q refl
 
--- the caller gets a call item
-view_called : (f g : Frame) (number : ℕ) (ws : List Wire) → g.body ≡ with_item f.body (item.Call number ws) → g ≡ record f { body = g.body } → view g ≡ view f
-view_called f g number ws body same =
-    let next : wires_of g.body ≡ wires_of f.body = ap wires_of body ∙ after_items-push f.body.params f.body.items (item.Call number ws) in
-    let width : both (wires_of g.body) ≡ both (wires_of f.body) = ap both next in
-    ap view same ∙ (λ i. record (view f) { next = next i; width = width i })
+-- the caller gets a call item, folded
+module _ (f g : Frame) (number : ℕ) (ws : List Wire) (body : g.body ≡ record f.body { items = with_folded f.body.items (item.Call number ws) }) where
+  called_wires : wires_of g.body ≡ wires_of f.body
+  called_wires =
+      ap wires_of body ∙ (with_folded-stands f.body.items (item.Call number ws)).after f.body.params ∙ after_items-push f.body.params f.body.items (item.Call number ws)
+
+  pub view_called : g ≡ record f { body = g.body } → view g ≡ view f
+  view_called same = ap view same ∙ (λ i. record (view f) { next = called_wires i; width = both (called_wires i) })
+
+  pub folds_called : IsFolded f.body.items → FoldsIn f.body.items (item.Call number ws ∷ []) g.body.items
+  folds_called folded =
+      subst (FoldsIn f.body.items (item.Call number ws ∷ [])) (sym (ap (λ (b : Contents). b.items) body)) (folds_one f.body.items (item.Call number ws) refl folded)
+
+  pub calls_called : (deck : List Module) → CallsFit deck f.body.items → CallFits deck number ws → CallsFit deck g.body.items
+  calls_called deck fit one =
+      subst (CallsFit deck) (sym (ap (λ (b : Contents). b.items) body))
+      ((with_folded-stands f.body.items (item.Call number ws)).call deck (calls_append deck f.body.items (item.Call number ws ∷ []) fit (one, tt)))
+
+  pub room_called : g ≡ record f { body = g.body } → last_turns f.body.items + 1 + 64 * f.steps ≤ 64 * 1048576 → HasRoom g
+  room_called same room =
+      let turns : last_turns g.body.items ≤ last_turns f.body.items + 1 =
+      subst (λ (l : List Item). last_turns l ≤ last_turns f.body.items + 1) (sym (ap (λ (b : Contents). b.items) body)) (turns_more f.body.items (item.Call number ws) refl) in
+      let steps : g.steps ≡ f.steps = ap (λ (h : Frame). h.steps) same in
+      omega arith
+
+-- a call of a body that is there
+pub call_fits : (deck : List Module) (number : ℕ) (key : Key) (ws : List Wire) → option_map key_of (slice_get deck number) ≡ Some key → map class_of ws ≡ param_classes key → CallFits deck number ws
+call_fits deck number key ws is classes = by (slice_get deck number) is
+  where
+    by : (o : Option Module) → option_map key_of o ≡ Some key → IsSomeAnd o (λ m. map class_of ws ≡ param_classes m.key)
+    by None e = absurd (let impossible : None ≡ Some key = e in cc)
+    by (Some m) e = let same : m.key ≡ key = cc in classes ∙ ap param_classes (sym same)
+
+-- what is said of a body that is being run speaks of what it is to the run
+pub typed_same : (t : TypedSource) (f g : Frame) (todo : List Todo) → view g ≡ view f → IsTypedBody t f todo → IsTypedBody t g todo
+typed_same t f g todo same h = record { names = h.names; typed = subst (IsTyped h.names) (sym same) h.typed; fine = h.fine }
 
 pub call_runs : (choice : Choice) (call : Callee) (r : Request) (m m' : Machine) (f g : Frame) (number : ℕ)
-    → IsCalled choice (call r.key) m number m' → g.body ≡ with_item f.body (item.Call number r.wires.items) → g ≡ record f { body = g.body }
+    → IsCalled choice (call r.key) m number m' → g.body ≡ record f.body { items = with_folded f.body.items (item.Call number r.wires.items) } → g ≡ record f { body = g.body } → IsFolded f.body.items
     → RunsOn choice (asked call r (view f)) m f m' g
-call_runs choice call r m m' f g number called body same ws rest =
+call_runs choice call r m m' f g number called body same folded ws rest =
     let back : Numbers × Made → Result (State × Made) ElabFault = λ p. Ok (back_in (view f) p.0, p.1) in
-    let items : g.body.items ≡ f.body.items ++ item.Call number r.wires.items ∷ [] = ap (λ (b : Contents). b.items) body in
+    let items : written g.body.items ≡ written f.body.items ++ item.Call number r.wires.items ∷ [] = (folds_called f g number r.wires.items body folded).stands in
     let v = view_called f g number r.wires.items body same in
     ran_leaving choice (around ws rest m f) (back_in (view f)) (call r.key r.wires.items (view f).next)
-    ∙ ap (λ (x : Result (Numbers × Made) ElabFault). x >>= back) (called r.wires.items (view f).next (record { wires = ws; items = f.body.items } ∷ rest))
-    ∙ (λ i. Ok (sym v i, made ws (sym items i) rest m'.deck m'.entered.keys))
+    ∙ ap (λ (x : Result (Numbers × Made) ElabFault). x >>= back) (called r.wires.items (view f).next (record { wires = ws; items = written f.body.items } ∷ rest))
+    ∙ (λ i. Ok (sym v i, made ws (sym items i) rest (written_modules m'.deck) m'.entered.keys))
 
 pub call_refused : (choice : Choice) (call : Callee) (r : Request) (m : Machine) (f : Frame) (fault : ElabFault)
     → IsRefusedCall choice (call r.key) m fault → IsRefusedOn choice (asked call r (view f)) m f fault
 call_refused choice call r m f fault refused ws rest =
     let back : Numbers × Made → Result (State × Made) ElabFault = λ p. Ok (back_in (view f) p.0, p.1) in
     ran_leaving choice (around ws rest m f) (back_in (view f)) (call r.key r.wires.items (view f).next)
-    ∙ ap (λ (x : Result (Numbers × Made) ElabFault). x >>= back) (refused r.wires.items (view f).next (record { wires = ws; items = f.body.items } ∷ rest))
+    ∙ ap (λ (x : Result (Numbers × Made) ElabFault). x >>= back) (refused r.wires.items (view f).next (record { wires = ws; items = written f.body.items } ∷ rest))

@@ -1,5 +1,5 @@
 -- The definition of a name, by the position of the first part of that name.
-use Rattle.std.proofs.Common.{◌≡◌, ℕ, zero, suc, Bool, true, false, cond, List, [], ◌∷◌, Option, Some, None, refl, sym, ap, ◌∙◌}
+use Rattle.std.proofs.Common.{◌≡◌, ℕ, suc, Bool, true, false, cond, List, [], ◌∷◌, Option, Some, None, refl, ap, ◌∙◌}
 use Rattle.std.specs.Prelude.{map, slice_get, option_map}
 use Rattle.sc_base.specs.Texts.{same}
 use Rattle.sc_syntax.specs.declared.Part.{Part}

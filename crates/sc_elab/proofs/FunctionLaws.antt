@@ -1,17 +1,16 @@
 -- The bodies of classical functions.
-use Rattle.std.proofs.Common.{◌≡◌, ℕ, zero, suc, ◌+◌, ◌<◌, ◌≤◌, Bool, true, false, cond, List, [], ◌∷◌, ◌++◌, length, get_or, take, Option, Some, None, Result, Ok, Err, refl, sym, ap, ◌∙◌, subst, arith, append-nil, append_assoc, length-append}
-use Rattle.std.specs.Prelude.{nat_lt, nat_le, map, flat_map, fold, replicate, sum, option_map, option_to_list}
+use Rattle.std.proofs.Common.{◌≡◌, ℕ, zero, suc, ◌+◌, ◌<◌, ◌≤◌, Bool, cond, List, [], ◌∷◌, ◌++◌, length, get_or, take, Option, Some, None, Ok, Err, refl, sym, ap, ◌∙◌, subst, arith, append-nil, append_assoc}
+use Rattle.std.specs.Prelude.{nat_le, map, flat_map, fold, replicate, sum, option_to_list}
 use Rattle.std.specs.List.{AllByRecursion}
 use Rattle.std.proofs.lemmas.List.{replicate-append-replicate, take_more}
 use Rattle.std.proofs.lemmas.Grind.{flat_map-append}
-use Rattle.std.proofs.lemmas.List.Sums.{sum_by-cons, sum_by-append}
+use Rattle.std.proofs.lemmas.List.Sums.{sum_by-cons, sum_by-append, fold-append}
 use Rattle.sc_base.specs.declared.Class.{Class}
 use Rattle.sc_base.specs.declared.Class.TheVariants.{Q, C}
 use Rattle.sc_gate.specs.declared.gate.Wire.{Wire}
 use Rattle.sc_gate.specs.declared.gate.Kind.{Kind}
 use Rattle.sc_gate.specs.declared.gate.Gate.{Gate}
-use Rattle.sc_gate.specs.Gates.{operands}
-use Rattle.sc_gate.specs.Numbers.{Numbers, number_of, both, no_wires, with_more, IsThere, AreThere}
+use Rattle.sc_gate.specs.Numbers.{Numbers, number_of, both, no_wires, with_more, IsThere}
 use Rattle.sc_gate.specs.Renaming.{rename_gate}
 use Rattle.sc_syntax.specs.declared.Name.{Name}
 use Rattle.sc_deck.specs.declared.key.Arg.{Arg}
@@ -20,28 +19,33 @@ use Rattle.sc_deck.specs.declared.key.Key.{Key}
 use Rattle.sc_deck.specs.declared.item.Item.{Item}
 use Rattle.sc_deck.specs.declared.item.Item.TheVariants as item
 use Rattle.sc_deck.specs.Bodies.{Contents, IsBody, ItemsFit, after_items, wires_of}
-use Rattle.sc_deck.specs.Events.{Event, Fresh, Apply}
-use Rattle.sc_deck.specs.Items.{GateFits, ItemFits, after_item}
+use Rattle.sc_deck.specs.Events.{Event, Apply}
+use Rattle.sc_deck.specs.Items.{GateFits, after_item}
 use Rattle.sc_deck.specs.Keys.{arg_classes, with_arg, param_classes, params_of}
+use Rattle.sc_deck.specs.Decks.{CallsFit}
 use Rattle.sc_deck.specs.Modules.{Module}
+use Rattle.sc_deck.specs.Turns.{written_out, last_turns, with_folded, folded}
 use Rattle.sc_deck.specs.Unfolding.{wires_from, placed, numbered}
+use Rattle.sc_deck.proofs.FoldLaws.{folded-stands}
+use Rattle.sc_deck.proofs.TurnLaws.{folded-written_out}
 use Rattle.sc_deck.proofs.PlaceLaws.{of_class-same, wires_from-at}
 use Rattle.sc_word.specs.Scratch.{fn_scratch, fn_wires}
 use Rattle.sc_word.specs.Typed.{TypedWords}
 use Rattle.sc_rev.specs.BitBodies.{scratch_items, gate_items, reversible_body}
 use Rattle.sc_rev.specs.Functions.{operands_of, gates_of}
 use Rattle.sc_meaning.specs.declared.choice.Choice.{Choice}
-use Rattle.sc_meaning.specs.declared.choice.Choice.TheVariants.{Keep, Replace}
-use Rattle.sc_meaning.specs.declared.fault.ElabFault.{ElabFault}
 use Rattle.sc_meaning.specs.declared.fault.ElabFault.TheVariants.{TooWide, TooManyInstances}
 use Rattle.sc_meaning.specs.Definitions.{Function}
+use Rattle.sc_elab.specs.Folding.{written, IsFolded}
 use Rattle.sc_elab.specs.Frames.{made}
-use Rattle.sc_elab.specs.FunctionBodies.{HasWidths, function_on, chosen_items, HasRoom, MakesBody, MakesNone}
+use Rattle.sc_elab.specs.FunctionBodies.{HasWidths, function_on, chosen_items, FitsBehind, MakesBody, MakesNone}
 use Rattle.sc_meaning.specs.Instances.{chosen}
 use Rattle.sc_meaning.specs.Local.{Half, Made, make, unless_many, ran}
 use Rattle.sc_meaning.specs.Outcomes.{Outcome, Done, Stopped}
 use Rattle.sc_meaning.specs.Programs.{function_of}
 use Rattle.sc_meaning.specs.Run.{fresh_scratch, function_body}
+use Rattle.sc_elab.proofs.Folding.{written_gates, turns_more, turns_gates}
+use Rattle.sc_elab.proofs.TurnRoom.{few_chosen}
 use Rattle.sc_elab.proofs.Declaring.{both_more, le_true, le_false}
 use Rattle.sc_elab.proofs.GateLaws.{after_both, after_gates}
 use Rattle.sc_meaning.proofs.Ran.{make-append, ran_fault}
@@ -50,7 +54,7 @@ use Rattle.sc_elab.proofs.StartLaws.{numbered_same}
 
 -- ---- the wires of a key with the widths of a function
 
-classes_of : (ws : List ℕ) → flat_map arg_classes (map (λ w. arg.Many Q w) ws) ≡ replicate (sum ws) Q
+pub classes_of : (ws : List ℕ) → flat_map arg_classes (map (λ w. arg.Many Q w) ws) ≡ replicate (sum ws) Q
 classes_of [] = refl
 classes_of (w ∷ ws) =
     ap (λ (cs : List Class). replicate w Q ++ cs) (classes_of ws)
@@ -193,16 +197,49 @@ chosen_append : (choice : Choice) (n : ℕ) (gs : List Gate) → flat_map (chose
 chosen_append choice zero gs = chosen_gates choice gs
 chosen_append choice (suc n) gs = ap (λ (is : List Item). item.Fresh Q (suc n) ∷ is) (chosen_gates choice gs)
 
--- kept gates stand for themselves
-keep_gates : (gs : List Gate) → flat_map (λ g. map item.Gate (chosen Keep g)) gs ≡ gate_items gs
-keep_gates [] = refl
-keep_gates (g ∷ gs) = ap (λ (is : List Item). item.Gate g ∷ is) (keep_gates gs)
+pub chosen_all : (choice : Choice) (t : TypedWords) → flat_map (chosen_items choice) (reversible_body t).items ≡ items_on choice t
+chosen_all choice t = chosen_append choice (fn_scratch t) (gates_of t)
 
-pub kept_items : (t : TypedWords) → (reversible_body t).items ≡ items_on Keep t
-kept_items t = ap (λ (is : List Item). scratch_items (fn_scratch t) ++ is) (sym (keep_gates (gates_of t)))
+written_chosen : (choice : Choice) (gs : List Gate) → written (flat_map (λ g. map item.Gate (chosen choice g)) gs) ≡ flat_map (λ g. map item.Gate (chosen choice g)) gs
+written_chosen choice [] = refl
+written_chosen choice (g ∷ gs) =
+    flat_map-append written_out (map item.Gate (chosen choice g)) (flat_map (λ g. map item.Gate (chosen choice g)) gs)
+    ∙ (λ i. written_gates (chosen choice g) i ++ written_chosen choice gs i)
 
-pub replaced_items : (t : TypedWords) → flat_map (chosen_items Replace) (reversible_body t).items ≡ items_on Replace t
-replaced_items t = chosen_append Replace (fn_scratch t) (gates_of t)
+written_scratch : (n : ℕ) → written (scratch_items n) ≡ scratch_items n
+written_scratch zero = refl
+written_scratch (suc n) = refl
+
+written_on : (choice : Choice) (t : TypedWords) → written (items_on choice t) ≡ items_on choice t
+written_on choice t =
+    flat_map-append written_out (scratch_items (fn_scratch t)) (flat_map (λ g. map item.Gate (chosen choice g)) (gates_of t))
+    ∙ (λ i. written_scratch (fn_scratch t) i ++ written_chosen choice (gates_of t) i)
+
+-- the body's items stand for them
+items_stand : (choice : Choice) (t : TypedWords) (body : Contents) → body.items ≡ folded (items_on choice t) → written body.items ≡ items_on choice t
+items_stand choice t body items = ap written items ∙ folded-written_out (items_on choice t) ∙ written_on choice t
+
+pub items_folded : (choice : Choice) (t : TypedWords) (body : Contents) → body.items ≡ folded (items_on choice t) → IsFolded body.items
+items_folded choice t body items = items ∙ sym (ap folded (items_stand choice t body items))
+
+-- none of them is a call
+after_gates_fit : (deck : List Module) (gs : List Gate) (rest : List Item) → CallsFit deck rest → CallsFit deck (map item.Gate gs ++ rest)
+after_gates_fit deck [] rest h = h
+after_gates_fit deck (g ∷ gs) rest h = (tt, after_gates_fit deck gs rest h)
+
+chosen_call : (deck : List Module) (choice : Choice) (gs : List Gate) → CallsFit deck (flat_map (λ g. map item.Gate (chosen choice g)) gs)
+chosen_call deck choice [] = tt
+chosen_call deck choice (g ∷ gs) = after_gates_fit deck (chosen choice g) (flat_map (λ g. map item.Gate (chosen choice g)) gs) (chosen_call deck choice gs)
+
+scratch_call : (deck : List Module) (n : ℕ) (rest : List Item) → CallsFit deck rest → CallsFit deck (scratch_items n ++ rest)
+scratch_call deck zero rest h = h
+scratch_call deck (suc n) rest h = (tt, h)
+
+pub items_call : (choice : Choice) (t : TypedWords) (body : Contents) → body.items ≡ folded (items_on choice t) → (deck : List Module) → CallsFit deck body.items
+items_call choice t body items deck =
+    subst (CallsFit deck) (sym items)
+    ((folded-stands (items_on choice t)).call deck
+    (scratch_call deck (fn_scratch t) (flat_map (λ g. map item.Gate (chosen choice g)) (gates_of t)) (chosen_call deck choice (gates_of t))))
 
 -- ---- the wires of such a body
 
@@ -225,9 +262,10 @@ after_chosen choice numbers (i ∷ items) =
     ∙ ap (λ (m : Numbers). after_items m (flat_map (chosen_items choice) items)) (one_chosen choice numbers i)
     ∙ after_chosen choice (after_item numbers i) items
 
-wires_on : (choice : Choice) (t : TypedWords) (body : Contents) → body.params ≡ own (operands_of t) → body.items ≡ items_on choice t → wires_of body ≡ own (fn_wires t)
+wires_on : (choice : Choice) (t : TypedWords) (body : Contents) → body.params ≡ own (operands_of t) → body.items ≡ folded (items_on choice t) → wires_of body ≡ own (fn_wires t)
 wires_on choice t body params items =
     (λ i. after_items (params i) (items i))
+    ∙ (folded-stands (items_on choice t)).after (own (operands_of t))
     ∙ after_both (own (operands_of t)) (scratch_items (fn_scratch t)) (flat_map (λ g. map item.Gate (chosen choice g)) (gates_of t))
     ∙ ap (λ (m : Numbers). after_items m (flat_map (λ g. map item.Gate (chosen choice g)) (gates_of t))) (scratch_wires (operands_of t) (fn_scratch t))
     ∙ ap (after_items (own (operands_of t + fn_scratch t))) (sym (chosen_gates choice (gates_of t)))
@@ -248,13 +286,13 @@ own_fit t h = subst (λ (m : ℕ). AllByRecursion (GateFits (own m)) (gates_of t
 
 -- the body of a function is made
 pub body_made : (choice : Choice) (name : Name) (t : TypedWords) (key : Key) (body : Contents) → HasWidths (function_of t) key → fn_wires t ≤ 65536
-    → IsBody (reversible_body t) → body.params ≡ own (operands_of t) → body.items ≡ items_on choice t → MakesBody choice (function_on name (function_of t) key) body
+    → IsBody (reversible_body t) → body.params ≡ own (operands_of t) → body.items ≡ folded (items_on choice t) → MakesBody choice (function_on name (function_of t) key) body
 body_made choice name t key body h few sound params items ws rest deck keys room =
     let m : Made = made ws (items_on choice t) rest deck keys in
     ap (ran choice (made ws [] rest deck keys)) (function_is name t key h few (own_fit t sound))
     ∙ ap (λ (m : Made). unless_many m (Ok (own (fn_wires t), m))) (make_function choice t ws rest deck keys)
     ∙ ap (λ (b : Bool). cond b (Err TooManyInstances) (Ok (own (fn_wires t), m))) room
-    ∙ (λ i. Ok (sym (wires_on choice t body params items) i, made ws (sym items i) rest deck keys))
+    ∙ (λ i. Ok (sym (wires_on choice t body params items) i, made ws (sym (items_stand choice t body items) i) rest deck keys))
 
 -- it has too many wires
 pub none_made : (choice : Choice) (name : Name) (t : TypedWords) (key : Key) → HasWidths (function_of t) key → 65536 < fn_wires t
@@ -281,14 +319,31 @@ wires_grow_all numbers (i ∷ items) =
 
 -- each item has room where it stands
 pub room_at : (numbers : Numbers) (items : List Item) (i : ℕ) (d : Item) → i < length items → ItemsFit numbers items → both (after_items numbers items) ≤ 65536
-    → HasRoom (after_items numbers (take i items)) (get_or items i d)
+    → FitsBehind (after_items numbers (take i items)) (get_or items i d)
 room_at numbers [] i d below fits narrow = absurd (omega arith)
 room_at numbers (x ∷ items) zero d below fits narrow = (fits.0, (let more = wires_grow_all (after_item numbers x) items in omega arith))
 room_at numbers (x ∷ items) (suc i) d below fits narrow = room_at (after_item numbers x) items i d (omega arith) fits.1 narrow
 
-pub chosen_more : (choice : Choice) (items : List Item) (i : ℕ) (d : Item) → i < length items
+chosen_more : (choice : Choice) (items : List Item) (i : ℕ) (d : Item) → i < length items
     → flat_map (chosen_items choice) (take (i + 1) items) ≡ flat_map (chosen_items choice) (take i items) ++ chosen_items choice (get_or items i d)
 chosen_more choice items i d below =
     ap (flat_map (chosen_items choice)) (take_more items i d below)
     ∙ flat_map-append (chosen_items choice) (take i items) (get_or items i d ∷ [])
     ∙ ap (λ (is : List Item). flat_map (chosen_items choice) (take i items) ++ is) (append-nil (chosen_items choice (get_or items i d)))
+
+-- one item more is folded in
+pub folded_more : (choice : Choice) (items : List Item) (i : ℕ) (d : Item) → i < length items
+    → folded (flat_map (chosen_items choice) (take (i + 1) items)) ≡ fold with_folded (folded (flat_map (chosen_items choice) (take i items))) (chosen_items choice (get_or items i d))
+folded_more choice items i d below =
+    ap folded (chosen_more choice items i d below) ∙ fold-append with_folded [] (flat_map (chosen_items choice) (take i items)) (chosen_items choice (get_or items i d))
+
+pub after_folded : (choice : Choice) (numbers : Numbers) (items : List Item) → after_items numbers (folded (flat_map (chosen_items choice) items)) ≡ after_items numbers items
+after_folded choice numbers items = (folded-stands (flat_map (chosen_items choice) items)).after numbers ∙ after_chosen choice numbers items
+
+-- the last item gets at most 64 turns more
+pub turns_item : (choice : Choice) (items : List Item) (i : Item) → last_turns (fold with_folded items (chosen_items choice i)) ≤ last_turns items + 64
+turns_item choice items (item.Fresh c n) = let one = turns_more items (item.Fresh c n) refl in omega arith
+turns_item choice items (item.Gate g) = omega (arith, turns_gates items (chosen choice g), few_chosen choice g)
+turns_item choice items (item.Call k ws) = omega arith
+turns_item choice items (item.Gates g n) = omega arith
+turns_item choice items (item.Calls k ws n) = omega arith

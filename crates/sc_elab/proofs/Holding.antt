@@ -1,13 +1,12 @@
 -- Arguments that are walked one after another.
-use Rattle.std.proofs.Common.{◌≡◌, ℕ, ◌+◌, ◌-◌, ◌<◌, ◌≤◌, Bool, true, false, cond, List, [], ◌∷◌, ◌++◌, length, get_or, take, drop, Option, Some, None, refl, sym, ap, ◌∙◌, arith, add-one, append-nil, append_assoc, drop-cons}
-use Rattle.std.specs.Prelude.{nat_lt, flat_map, map}
+use Rattle.std.proofs.Common.{◌≡◌, ℕ, ◌+◌, ◌-◌, ◌<◌, ◌≤◌, Bool, true, false, cond, List, [], ◌∷◌, ◌++◌, length, get_or, take, drop, Some, sym, ap, ◌∙◌, arith, add-one, append-nil, append_assoc, drop-cons}
+use Rattle.std.specs.Prelude.{nat_lt}
 use Rattle.std.proofs.lemmas.Bool.Decides.{nat_tests}
 use Rattle.std.proofs.lemmas.List.{take_more}
-use Rattle.sc_base.specs.declared.Place.{Place}
 use Rattle.sc_gate.specs.declared.gate.Wire.{Wire}
 use Rattle.sc_elab.specs.declared.arguments.Evaluated.{Evaluated}
-use Rattle.sc_meaning.specs.Arguments.{Passed, wires_of}
-use Rattle.sc_elab.specs.Evaluated.{passed_by, all_passed, holder}
+use Rattle.sc_meaning.specs.Arguments.{wires_of}
+use Rattle.sc_elab.specs.Evaluated.{all_passed, holder}
 use Rattle.sc_elab.specs.Spans.{span_wires}
 use Rattle.sc_meaning.proofs.Spanned.{length_made}
 

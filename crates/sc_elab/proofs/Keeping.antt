@@ -1,5 +1,5 @@
 -- Declarations, settings, gates and measurements take no step, and enter and leave no scope.
-use Rattle.std.proofs.Common.{◌≡◌, ℕ, zero, suc, ◌+◌, ◌<◌, ◌≤◌, Bool, true, false, cond, List, [], ◌∷◌, ◌++◌, length, Option, Some, None, Result, Ok, Err, refl, sym, ap, ◌∙◌, arith}
+use Rattle.std.proofs.Common.{◌≡◌, ℕ, zero, suc, ◌+◌, Bool, true, false, cond, List, [], ◌∷◌, ◌++◌, length, Option, Result, Ok, Err, refl, ap, ◌∙◌}
 use Rattle.std.specs.Prelude.{ℤ, pos, negsuc, nat_le}
 use Rattle.std.specs.FinMap.{contains_key, insert}
 use Rattle.sc_base.specs.declared.Place.{Place}
@@ -10,7 +10,7 @@ use Rattle.sc_syntax.specs.declared.SetOp.{SetOp}
 use Rattle.sc_syntax.specs.Alike.{PureExpr, PureNamed, PureParam}
 use Rattle.sc_value.specs.declared.Value.{Value}
 use Rattle.sc_value.specs.declared.Value.TheVariants as value
-use Rattle.sc_value.specs.Scopes.{Scope, Scopes, with_declared, with_set}
+use Rattle.sc_value.specs.Scopes.{Scopes, with_declared, with_set}
 use Rattle.sc_deck.specs.declared.Arg.{Arg}
 use Rattle.sc_deck.specs.declared.Arg.TheVariants as arg
 use Rattle.sc_deck.specs.Events.{Event, Fresh}
@@ -19,9 +19,9 @@ use Rattle.sc_meaning.specs.declared.fault.ElabFault.{ElabFault}
 use Rattle.sc_meaning.specs.declared.fault.ElabFault.TheVariants.{TooWide, BadSize}
 use Rattle.sc_elab.specs.declared.frame.Frame.{Frame}
 use Rattle.sc_elab.specs.declared.todo.Todo.{Todo}
-use Rattle.sc_types.specs.Accepted.{Taken}
 use Rattle.sc_meaning.specs.Arguments.{number_params}
 use Rattle.sc_elab.specs.Beginnings.{Begun}
+use Rattle.sc_elab.specs.Folding.{written}
 use Rattle.sc_elab.specs.Frames.{view, made, Runs}
 use Rattle.sc_meaning.specs.Local.{Made, make, ran}
 use Rattle.sc_meaning.specs.Outcomes.{Outcome, Done, Stopped, after, then_do, given}
@@ -132,8 +132,8 @@ kept_left n k choice m m' (Done x a) t h is =
 kept_left n k choice m m' (Stopped x f) t h is = absurd (never f (t, m') (few_by (many (make choice x m)) (Err f) (t, m') is).1)
 
 -- a part that is done, and puts nothing on the list
-pub begun_runs : (IsFine : Taken → Type 0) (choice : Choice) (o : Outcome State) (f g : Frame) (todo : List Todo) → Keeps f.steps (length f.numbers) o → Runs choice o f g → Begun IsFine f todo g todo
-begun_runs IsFine choice o f g todo h runs =
+pub begun_runs : (choice : Choice) (o : Outcome State) (f g : Frame) (todo : List Todo) → Keeps f.steps (length f.numbers) o → Runs choice o f g → Begun f todo g todo
+begun_runs choice o f g todo h runs =
     let kept : (g.steps ≡ f.steps) × (length g.numbers ≡ length f.numbers) =
-    kept_left f.steps (length f.numbers) choice (made [] f.body.items [] [] []) (made [] g.body.items [] [] []) o (view g) h (runs [] [] [] [] refl) in
-    begun_still IsFine f g todo kept.0 kept.1
+    kept_left f.steps (length f.numbers) choice (made [] (written f.body.items) [] [] []) (made [] (written g.body.items) [] [] []) o (view g) h (runs [] [] [] [] refl) in
+    begun_still f g todo kept.0 kept.1

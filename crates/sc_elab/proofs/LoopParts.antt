@@ -1,23 +1,18 @@
 -- Steps, conditions and rounds, as the code takes them.
-use Rattle.std.proofs.Common.{◌≡◌, ℕ, zero, suc, Bool, true, false, List, [], ◌∷◌, ◌++◌, Option, Some, None, Result, Ok, Err, refl, sym, ap, ◌∙◌, subst}
-use Rattle.std.specs.Prelude.{option_map}
-use Rattle.std.specs.Option.{option_copied}
+use Rattle.std.proofs.Common.{◌≡◌, ℕ, zero, suc, Bool, [], Option, Some, None, Result, Ok, Err, sym, ap, ◌∙◌}
 use Rattle.sc_base.specs.declared.Place.{Place}
 use Rattle.sc_syntax.specs.declared.Stmt.{Stmt}
-use Rattle.sc_syntax.specs.Alike.{PureExpr, PureAct, PureHeld, pure_act, pure_expr}
+use Rattle.sc_syntax.specs.Alike.{PureExpr, pure_act}
 use Rattle.sc_value.specs.declared.Value.{Value}
 use Rattle.sc_value.specs.Numbers.{is_true}
 use Rattle.sc_meaning.specs.declared.fault.ElabFault.{ElabFault}
 use Rattle.sc_meaning.specs.declared.fault.ElabFault.TheVariants.{TooLong}
 use Rattle.sc_elab.specs.declared.frame.Frame.{Frame}
-use Rattle.sc_elab.specs.declared.todo.Todo.{Todo}
-use Rattle.sc_elab.specs.declared.todo.Todo.TheVariants.{Do, Loop, Rest, Leave}
-use Rattle.sc_elab.specs.declared.todo.Rounds.{Rounds}
 use Rattle.sc_meaning.specs.Definitions.{Program}
 use Rattle.sc_elab.specs.Frames.{view}
-use Rattle.sc_meaning.specs.Outcomes.{Outcome, Done, Stopped, after, then_do, given, leaving}
-use Rattle.sc_elab.specs.Pending.{held_by, round_of, looped, doing, pending}
-use Rattle.sc_meaning.specs.Run.{Callee, step_of, step, by_truth, choose, finish, act, maybe, loop}
+use Rattle.sc_meaning.specs.Outcomes.{Outcome, Done, Stopped, then_do, given, leaving}
+use Rattle.sc_elab.specs.Pending.{held_by, round_of}
+use Rattle.sc_meaning.specs.Run.{Callee, step_of, step, by_truth, choose, finish, act, loop}
 use Rattle.sc_meaning.specs.States.{State, with_scope, without_scope, inside}
 use Rattle.sc_elab.specs.Stepping.{StepsFrom, Steps, holds}
 use Rattle.sc_meaning.specs.Values.{◌>>=◌, number}

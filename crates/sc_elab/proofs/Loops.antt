@@ -1,8 +1,7 @@
 -- A loop is one round, and then the loop again.
-use Rattle.std.proofs.Common.{◌≡◌, ℕ, zero, suc, ◌+◌, ◌<◌, ◌≤◌, Bool, true, false, List, [], ◌∷◌, Option, Some, None, Result, Ok, Err, refl, sym, ap, ◌∙◌, subst, arith}
+use Rattle.std.proofs.Common.{◌≡◌, ℕ, zero, suc, ◌<◌, ◌≤◌, Bool, true, false, [], Some, None, Result, Ok, Err, refl, sym, ap, ◌∙◌, arith}
 use Rattle.sc_base.specs.declared.Place.{Place}
 use Rattle.sc_syntax.specs.Alike.{PureExpr, PureAct, PureHeld}
-use Rattle.sc_value.specs.declared.Value.{Value}
 use Rattle.sc_value.specs.Numbers.{is_true}
 use Rattle.sc_meaning.specs.declared.fault.ElabFault.{ElabFault}
 use Rattle.sc_meaning.specs.declared.fault.ElabFault.TheVariants.{TooLong}

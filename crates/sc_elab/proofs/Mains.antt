@@ -1,23 +1,49 @@
--- Main is a module, so its key is that of no classical function.
-use Rattle.std.proofs.Common.{◌≡◌, ℕ, zero, suc, Bool, true, false, cond, List, [], ◌∷◌, Option, Some, None, refl, sym, ap, ◌∙◌, subst}
+-- A checked source: its main is entered without arguments, and each key that it enters has the name of a part.
+use Rattle.std.proofs.Common.{◌≡◌, ℕ, zero, suc, Bool, true, false, cond, List, [], ◌∷◌, Option, Some, None, refl, sym, ap, ◌∙◌, subst, arith}
 use Rattle.std.specs.Prelude.{map, slice_get, option_map}
-use Rattle.std.specs.Cmp.Lexicographic.{same_text}
-use Rattle.sc_syntax.specs.declared.Name.{Name}
+use Rattle.std.specs.Cmp.Lexicographic.{same_text, bytes_decides}
+use Rattle.std.proofs.lemmas.List.Elements.{All-nil}
+use Rattle.sc_base.specs.NameTexts.{IsNameText}
+use Rattle.sc_gate.specs.Numbers.{both, no_wires}
+use Rattle.sc_syntax.specs.declared.Param.{Param}
 use Rattle.sc_syntax.specs.declared.Part.{Part}
 use Rattle.sc_syntax.specs.declared.Part.TheVariants as part
-use Rattle.sc_syntax.specs.Alike.{pure_part}
+use Rattle.sc_syntax.specs.Alike.{pure_param, pure_part}
+use Rattle.sc_syntax.specs.Formed.{IsFormedPart}
 use Rattle.sc_deck.specs.declared.key.Key.{Key}
-use Rattle.sc_deck.specs.Keys.{main_key}
+use Rattle.sc_deck.specs.Keys.{HasLength, main_key}
 use Rattle.sc_word.specs.Typed.{TypedWords}
+use Rattle.sc_types.specs.Accepted.{Taken, IsAcceptedPart, AreAccepted, IsAccepted}
 use Rattle.sc_types.specs.FirstParts.{has_name}
 use Rattle.sc_types.specs.Positions.{first_at}
-use Rattle.sc_types.specs.Statements.{part_name}
-use Rattle.sc_types.specs.Typing.{TypedSource, typed_at}
-use Rattle.sc_elab.specs.Fine.{FitsKey}
-use Rattle.sc_elab.specs.Sources.{IsSound}
-use Rattle.sc_meaning.specs.Definitions.{Function, Definition, of_function, definition}
+use Rattle.sc_types.specs.Statements.{part_name, named_wants}
+use Rattle.sc_types.specs.Typing.{IsTyped, AreTyped, TypedSource, part_at, typed_at}
+use Rattle.sc_meaning.specs.Arguments.{want_of}
+use Rattle.sc_meaning.specs.Definitions.{Definition, definition}
 use Rattle.sc_meaning.specs.Programs.{program_of}
-use Rattle.sc_elab.proofs.Finding.{standing, definition_at, found}
+use Rattle.sc_elab.specs.Sources.{IsSound}
+use Rattle.sc_elab.specs.Typings.{ArgsFit, Takes, IsEntering}
+use Rattle.sc_elab.proofs.Adding.{got}
+use Rattle.sc_elab.proofs.Finding.{standing, definition_at, found, module_found}
+
+-- ---- its parts are typed
+
+part_typed : (taken : Taken) (p : Part) (w : Option TypedWords) → IsAcceptedPart taken (pure_part p) w → IsTyped p w
+part_typed taken (part.Module m) None h = tt
+part_typed taken (part.Module m) (Some t) h = absurd h
+part_typed taken (part.Words f) None h = absurd h
+part_typed taken (part.Words f) (Some t) h = h
+
+parts_typed : (taken : Taken) (ps : List Part) (ws : List (Option TypedWords)) → AreAccepted taken (map pure_part ps) ws → AreTyped ps ws
+parts_typed taken [] [] h = tt
+parts_typed taken [] (w ∷ ws) h = absurd h
+parts_typed taken (p ∷ ps) [] h = absurd h
+parts_typed taken (p ∷ ps) (w ∷ ws) h = (part_typed taken p w h.0, parts_typed taken ps ws h.1)
+
+pub accepted_typed : (t : TypedSource) → IsAccepted t → AreTyped t.source.parts t.words
+accepted_typed t h = parts_typed (named_wants (map pure_part t.source.parts)) t.source.parts t.words h
+
+-- ---- the first part of a name
 
 -- the part at the first position that passes passes
 first_has : (test : Part → Bool) (ps : List Part) (j : ℕ) (q : Part) → first_at test ps ≡ Some j → slice_get ps j ≡ Some q → test q ≡ true
@@ -32,9 +58,21 @@ first_has test (p ∷ ps) j q at there = by (test p) refl (first_at test ps) ref
     by false is (Some k) rest zero at there more = absurd cc
     by false is (Some k) rest (suc j) at there more = let same : k ≡ j = cc in more j (rest ∙ ap Some same) there
 
--- a part whose definition is a classical function's is one
-words_only : (main : _) (p : Option Part) (typed : Option TypedWords) (name : Name) (f : Function) → p ≡ Some (part.Module main) → standing p typed ≡ Some (of_function name f) → ⊥
-words_only main p typed name f is e = let at : standing (Some (part.Module main)) typed ≡ Some (of_function name f) = ap (λ (q : Option Part). standing q typed) (sym is) ∙ e in cc
+-- the only one that passes is the first
+first_is : (test : Part → Bool) (ps : List Part) (p : ℕ) (q : Part) → slice_get ps p ≡ Some q → test q ≡ true → ((j : ℕ) (x : Part) → slice_get ps j ≡ Some x → test x ≡ true → j ≡ p)
+    → first_at test ps ≡ Some p
+first_is test [] p q at is only = absurd (let impossible : None ≡ Some q = at in cc)
+first_is test (x ∷ ps) p q at is only = by (test x) refl p at only (λ k e o. first_is test ps k q e is o)
+  where
+    by : (b : Bool) → test x ≡ b → (p : ℕ) → slice_get (x ∷ ps) p ≡ Some q → ((j : ℕ) (y : Part) → slice_get (x ∷ ps) j ≡ Some y → test y ≡ true → j ≡ p)
+        → ((k : ℕ) → slice_get ps k ≡ Some q → ((j : ℕ) (y : Part) → slice_get ps j ≡ Some y → test y ≡ true → j ≡ k) → first_at test ps ≡ Some k)
+        → cond b (Some 0) (option_map suc (first_at test ps)) ≡ Some p
+    by true e zero at only more = refl
+    by true e (suc k) at only more = absurd (let z : 0 ≡ suc k = only 0 x refl e in omega arith)
+    by false e zero at only more = absurd (let same : x ≡ q = cc in let impossible : true ≡ false = sym is ∙ ap test (sym same) ∙ e in cc)
+    by false e (suc k) at only more = ap (option_map suc) (more k at (λ j y f g. (let z : suc j ≡ suc k = only (suc j) y f g in omega arith)))
+
+-- ---- the names of keys
 
 stands : (ps : List Part) (ws : List (Option TypedWords)) (j : ℕ) (d : Definition) → definition_at ps ws (Some j) ≡ Some d → (q : Part) × (slice_get ps j ≡ Some q)
 stands ps ws j d e = by (slice_get ps j) refl e
@@ -43,19 +81,47 @@ stands ps ws j d e = by (slice_get ps j) refl e
     by None is e = absurd cc
     by (Some q) is e = (q, is)
 
-not_words : (t : TypedSource) → IsSound t → (name : Name) (f : Function) → definition (program_of t) main_key.name ≡ Some (of_function name f) → ⊥
-not_words t h name f e =
-    by (first_at (has_name main_key.name) t.source.parts) refl (sym (found t.source.parts t.words main_key.name) ∙ e)
+-- a name that is defined is that of a part
+defined_part : (t : TypedSource) (name : List ℕ) (d : Definition) → definition (program_of t) name ≡ Some d → (j : ℕ) × (q : Part) × (slice_get t.source.parts j ≡ Some q) × (name ≡ part_name (pure_part q))
+defined_part t name d e = by (first_at (has_name name) t.source.parts) refl (sym (found t.source.parts t.words name) ∙ e)
   where
-    by : (o : Option ℕ) → first_at (has_name main_key.name) t.source.parts ≡ o → definition_at t.source.parts t.words o ≡ Some (of_function name f) → ⊥
-    by None is e = cc
+    by : (o : Option ℕ) → first_at (has_name name) t.source.parts ≡ o → definition_at t.source.parts t.words o ≡ Some d
+        → (j : ℕ) × (q : Part) × (slice_get t.source.parts j ≡ Some q) × (name ≡ part_name (pure_part q))
+    by None is e = absurd cc
     by (Some j) is e =
-        let q = stands t.source.parts t.words j (of_function name f) e in
-        let named : main_key.name ≡ part_name (pure_part q.0) = same_text main_key.name (part_name (pure_part q.0)) (sym (first_has (has_name main_key.name) t.source.parts j q.0 is q.1)) in
-        let same : h.place ≡ j = h.distinct h.place j (part.Module h.main.main) q.0 h.main.stands q.1 (h.main.named ∙ named) in
-        let at : slice_get t.source.parts j ≡ Some (part.Module h.main.main) = ap (slice_get t.source.parts) (sym same) ∙ h.main.stands in
-        words_only h.main.main (slice_get t.source.parts j) (typed_at t.words j) name f at e
+        let q = stands t.source.parts t.words j d e in
+        (j, q.0, q.1, same_text name (part_name (pure_part q.0)) (sym (first_has (has_name name) t.source.parts j q.0 is q.1)))
 
--- THE KEY OF MAIN
-pub main_fits_key : (t : TypedSource) → IsSound t → (key : Key) → key.name ≡ main_key.name → FitsKey (program_of t) key
-main_fits_key t h key named name f e = absurd (not_words t h name f (ap (definition (program_of t)) (sym named) ∙ e))
+formed_name : (p : Part) → IsFormedPart p → IsNameText (part_name (pure_part p))
+formed_name (part.Module m) h = h.name.word
+formed_name (part.Words f) h = h.name.word
+
+-- THE NAME OF A KEY that is entered
+pub entering_named : (t : TypedSource) → IsSound t → (key : Key) → IsEntering t key → IsNameText key.name
+entering_named t sound key h = by (definition (program_of t) key.name) refl h.takes
+  where
+    by : (o : Option Definition) → definition (program_of t) key.name ≡ o → Takes o key → IsNameText key.name
+    by None is takes = absurd takes
+    by (Some d) is takes =
+        let p = defined_part t key.name d is in
+        let at = got t.source.parts p.0 p.1 p.2 in
+        subst IsNameText (sym p.3) (formed_name p.1 (subst IsFormedPart at.1 (sound.checked.formed.each p.0 p.1 at.0)))
+
+-- ---- main
+
+-- MAIN is entered without arguments
+pub main_enters : (t : TypedSource) → IsSound t → IsEntering t main_key
+main_enters t sound =
+    let main = sound.main.main in
+    let name : main_key.name ≡ part_name (pure_part (part.Module main)) = sym sound.main.named in
+    let at : part_at t.source main_key.name ≡ Some sound.place =
+    first_is (has_name main_key.name) t.source.parts sound.place (part.Module main) sound.main.stands ((bytes_decides main_key.name (part_name (pure_part (part.Module main)))).1 name)
+    (λ j x f g. sound.distinct j sound.place x (part.Module main) f sound.main.stands (sym (same_text main_key.name (part_name (pure_part x)) (sym g)) ∙ name)) in
+    let is = module_found t main_key.name sound.place main at sound.main.stands in
+    let bare : ArgsFit (map (λ p. want_of p.sort) (map pure_param main.params)) [] =
+    subst (λ (ps : List Param). ArgsFit (map (λ p. want_of p.sort) (map pure_param ps)) []) (sym sound.main.bare) tt in
+    record {
+      takes = subst (λ (o : Option Definition). Takes o main_key) (sym is) bare;
+      lengths = All-nil HasLength;
+      few = (let none : both no_wires ≡ 0 = refl in omega arith);
+    }

@@ -1,5 +1,5 @@
 -- The names of wires, scope by scope, as they are kept: the innermost scope last.
-use Rattle.std.proofs.Common.{◌≡◌, refl, sym, ap, ◌∙◌, ℕ, ◌+◌, ◌<◌, Bool, true, false, cond, List, [], ◌∷◌, ◌++◌, length, get_or, take, drop, set, arith, length-set, get_or-set_same}
+use Rattle.std.proofs.Common.{◌≡◌, refl, sym, ap, ◌∙◌, ℕ, ◌+◌, ◌<◌, Bool, true, false, cond, List, [], ◌∷◌, ◌++◌, length, get_or, take, set, arith, length-set, get_or-set_same}
 use Rattle.std.proofs.lemmas.List.{reverse-append, take-set, take_more, take_all}
 use mathlib.Core.List.{reverse}
 use Rattle.std.specs.Prelude.{Option, Some, None, map, option_map}

@@ -1,28 +1,17 @@
 -- A list of what is still to do, part by part.
-use Rattle.std.proofs.Common.{◌≡◌, ℕ, suc, ◌+◌, ◌<◌, ◌≤◌, Bool, true, false, List, [], ◌∷◌, ◌++◌, length, Option, Some, None, Result, Ok, Err, refl, sym, ap, ◌∙◌, subst, arith}
-use Rattle.std.specs.Prelude.{option_map, nat_lt}
-use Rattle.std.specs.Option.{option_copied}
-use Rattle.sc_base.specs.declared.Place.{Place}
-use Rattle.sc_syntax.specs.declared.Stmt.{Stmt}
-use Rattle.sc_syntax.specs.Alike.{PureExpr, PureAct, PureHeld, pure_act, pure_expr}
-use Rattle.sc_value.specs.declared.Value.{Value}
-use Rattle.sc_value.specs.Numbers.{is_true}
-use Rattle.sc_deck.specs.Modules.{Module}
-use Rattle.sc_deck.specs.declared.key.Key.{Key}
-use Rattle.sc_deck.specs.Events.{Event}
+use Rattle.std.proofs.Common.{◌≡◌, List, [], ◌∷◌, ◌++◌, Option, Some, None, refl, sym, ap, ◌∙◌}
 use Rattle.sc_meaning.specs.declared.choice.Choice.{Choice}
-use Rattle.sc_meaning.specs.declared.fault.ElabFault.{ElabFault}
 use Rattle.sc_elab.specs.declared.frame.Frame.{Frame}
 use Rattle.sc_elab.specs.declared.todo.Todo.{Todo}
-use Rattle.sc_elab.specs.declared.todo.Todo.TheVariants.{Do, Loop, Rest, Leave}
+use Rattle.sc_elab.specs.declared.todo.Todo.TheVariants.{Leave}
 use Rattle.sc_elab.specs.declared.todo.Request.{Request}
-use Rattle.sc_elab.specs.declared.todo.Rounds.{Rounds}
 use Rattle.sc_meaning.specs.Definitions.{Program}
-use Rattle.sc_elab.specs.Frames.{view, made, Runs, IsRefused, Advanced, StopsAt}
-use Rattle.sc_meaning.specs.Local.{Half, Made, ran}
-use Rattle.sc_meaning.specs.Outcomes.{Outcome, Done, Stopped, after, then_do, given, leaving}
-use Rattle.sc_elab.specs.Pending.{held_by, round_of, looped, doing, pending, asked, after_asked, leaves}
-use Rattle.sc_meaning.specs.Run.{Callee, step, finish, act, acts, maybe, loop, tested}
+use Rattle.sc_elab.specs.Folding.{written}
+use Rattle.sc_elab.specs.Frames.{view, made, Runs, Advanced}
+use Rattle.sc_meaning.specs.Local.{ran}
+use Rattle.sc_meaning.specs.Outcomes.{Outcome, Done, then_do, leaving}
+use Rattle.sc_elab.specs.Pending.{doing, pending, asked}
+use Rattle.sc_meaning.specs.Run.{Callee, finish}
 use Rattle.sc_meaning.specs.States.{State, with_scope, without_scope, inside}
 use Rattle.sc_meaning.proofs.Ran.{after_none, ran_next, then_then, then_none, leaving_is}
 
@@ -57,7 +46,7 @@ pending_last program call todo t go s = ap (λ (h : State → Outcome State). h 
 pub advanced_runs : (program : Program) (choice : Choice) (part : Callee → State → Outcome State) (f g : Frame) (todo : List Todo)
     → ((call : Callee) → Runs choice (part call (view f)) f g) → Advanced program choice part f todo None g todo
 advanced_runs program choice part f g todo runs call go ws rest deck keys few =
-    ran_next choice (made ws f.body.items rest deck keys) (made ws g.body.items rest deck keys) (part call (view f)) (view g) (pending program call todo go)
+    ran_next choice (made ws (written f.body.items) rest deck keys) (made ws (written g.body.items) rest deck keys) (part call (view f)) (view g) (pending program call todo go)
     (runs call ws rest deck keys few)
 
 -- a part that is put on the list as other parts
@@ -65,22 +54,22 @@ pub advanced_parts : (program : Program) (choice : Choice) (part : Callee → St
     → g.body.items ≡ f.body.items → todo' ≡ todo ++ ts
     → ((call : Callee) → part call (view f) ≡ pending program call ts finish (view g)) → Advanced program choice part f todo None g todo'
 advanced_parts program choice part f g todo ts todo' items more is call go ws rest deck keys few =
-    (λ i. ran choice (made ws (sym items i) rest deck keys) (then_do (is call i) (pending program call todo go)))
-    ∙ ap (ran choice (made ws g.body.items rest deck keys)) (sym (pending_more program call todo ts go (view g)))
-    ∙ (λ i. ran choice (made ws g.body.items rest deck keys) (pending program call (sym more i) go (view g)))
+    (λ i. ran choice (made ws (written (sym items i)) rest deck keys) (then_do (is call i) (pending program call todo go)))
+    ∙ ap (ran choice (made ws (written g.body.items) rest deck keys)) (sym (pending_more program call todo ts go (view g)))
+    ∙ (λ i. ran choice (made ws (written g.body.items) rest deck keys) (pending program call (sym more i) go (view g)))
 
 -- a part that comes to a call
 pub advanced_call : (program : Program) (choice : Choice) (part : Callee → State → Outcome State) (f g : Frame) (todo : List Todo) (r : Request)
     → g.body.items ≡ f.body.items → ((call : Callee) → part call (view f) ≡ asked call r (view g)) → Advanced program choice part f todo (Some r) g todo
 advanced_call program choice part f g todo r items is call go ws rest deck keys few =
-    λ i. ran choice (made ws (sym items i) rest deck keys) (then_do (is call i) (pending program call todo go))
+    λ i. ran choice (made ws (written (sym items i)) rest deck keys) (then_do (is call i) (pending program call todo go))
 
 -- the same of a part that is another
 pub advanced_from : (program : Program) (choice : Choice) (part part' : Callee → State → Outcome State) (f f' g : Frame) (todo todo' : List Todo) (r : Option Request)
     → f'.body.items ≡ f.body.items → ((call : Callee) → part call (view f) ≡ part' call (view f'))
     → Advanced program choice part' f' todo r g todo' → Advanced program choice part f todo r g todo'
 advanced_from program choice part part' f f' g todo todo' r items is h call go ws rest deck keys few =
-    (λ i. ran choice (made ws (sym items i) rest deck keys) (then_do (is call i) (pending program call todo go)))
+    (λ i. ran choice (made ws (written (sym items i)) rest deck keys) (then_do (is call i) (pending program call todo go)))
     ∙ h call go ws rest deck keys few
 
 -- ---- statements in a scope of their own

@@ -1,14 +1,16 @@
--- The keys of a deck are among those that were entered, so there are at most as many.
-use Rattle.std.proofs.Common.{◌≡◌, ℕ, zero, suc, ◌+◌, ◌<◌, ◌≤◌, Bool, true, false, cond, ◌||◌, List, [], ◌∷◌, ◌++◌, length, get_or, Option, Some, None, refl, sym, ap, ◌∙◌, subst, arith}
+-- The keys of a deck are among those that were entered, so there are fewer where one more was entered.
+use Rattle.std.proofs.Common.{◌≡◌, ℕ, zero, suc, ◌<◌, ◌≤◌, ◌⊎◌, inl, inr, Bool, true, false, cond, ◌||◌, List, [], ◌∷◌, length, get_or, Some, refl, sym, ap, ◌∙◌, subst, arith}
 use Rattle.std.specs.Prelude.{slice_get}
 use Rattle.std.specs.List.{list_any}
+use Rattle.std.proofs.lemmas.Bool.{cases_lt}
 use Rattle.indexmap.proofs.IndexTableLemmas.Probe.{pigeonhole}
 use Rattle.sc_deck.specs.declared.key.Key.{Key}
 use Rattle.sc_deck.specs.Keys.{same_key}
 use Rattle.sc_deck.specs.KeyLaws.{same_key_decides}
 use Rattle.sc_deck.specs.Modules.{Module}
-use Rattle.sc_deck.specs.Decks.{IsDeck}
+use Rattle.sc_deck.specs.Decks.{IsDeck, IsNewKey}
 use Rattle.sc_deck.proofs.CallLaws.{key_number}
+use Rattle.sc_elab.proofs.Adding.{IsNowhere, new_nowhere}
 
 -- the position of the first key that is this one
 abbrev first_in : List Key → Key → ℕ
@@ -47,13 +49,36 @@ stands_at (m ∷ deck) (suc i) d below = stands_at deck i d (omega arith)
 abbrev pub AreAmong : List Key → List Module → Type 0
 AreAmong keys deck = (i : ℕ) (m : Module) → slice_get deck i ≡ Some m → IsAmong keys m.key
 
-few_from : (deck : List Module) (keys : List Key) (d : Module) → IsDeck deck → AreAmong keys deck → length deck ≤ length keys
-few_from deck keys d sound among =
-    pigeonhole (length deck) (length keys) (λ i. first_in keys (get_or deck i d).key)
-    (λ i below. first_below keys (get_or deck i d).key (among i (get_or deck i d) (stands_at deck i d below)))
-    (λ i j p q e. key_number deck sound i j (get_or deck i d) (get_or deck j d) (stands_at deck i d p) (stands_at deck j d q)
-    (first_same keys (get_or deck i d).key (get_or deck j d).key (among i (get_or deck i d) (stands_at deck i d p)) (among j (get_or deck j d) (stands_at deck j d q)) e))
+-- past the end it is the default
+past_end : (deck : List Module) (i : ℕ) (d : Module) → length deck ≤ i → get_or deck i d ≡ d
+past_end [] i d above = refl
+past_end (m ∷ deck) zero d above = absurd (omega arith)
+past_end (m ∷ deck) (suc i) d above = past_end deck i d (omega arith)
 
-pub few_bodies : (deck : List Module) (keys : List Key) → IsDeck deck → AreAmong keys deck → length deck ≤ length keys
-few_bodies [] keys sound among = omega arith
-few_bodies (m ∷ deck) keys sound among = few_from (m ∷ deck) keys m sound among
+module _ (deck : List Module) (keys : List Key) (d : Module) (sound : IsDeck deck) (among : AreAmong keys deck) (here : IsAmong keys d.key) (new : IsNowhere deck d.key) where
+  among_at : (i : ℕ) → (i < length deck) ⊎ (length deck ≤ i) → IsAmong keys (get_or deck i d).key
+  among_at i (inl l) = among i (get_or deck i d) (stands_at deck i d l)
+  among_at i (inr l) = subst (λ (m : Module). IsAmong keys m.key) (sym (past_end deck i d l)) here
+
+  once_at : (i j : ℕ) → i < suc (length deck) → j < suc (length deck) → (i < length deck) ⊎ (length deck ≤ i) → (j < length deck) ⊎ (length deck ≤ j)
+      → (get_or deck i d).key ≡ (get_or deck j d).key → i ≡ j
+  once_at i j p q (inl l) (inl k) e = key_number deck sound i j (get_or deck i d) (get_or deck j d) (stands_at deck i d l) (stands_at deck j d k) e
+  once_at i j p q (inl l) (inr k) e =
+      absurd (new i (get_or deck i d) (stands_at deck i d l) (e ∙ ap (λ (m : Module). m.key) (past_end deck j d k)))
+  once_at i j p q (inr l) (inl k) e =
+      absurd (new j (get_or deck j d) (stands_at deck j d k) (sym e ∙ ap (λ (m : Module). m.key) (past_end deck i d l)))
+  once_at i j p q (inr l) (inr k) e = omega arith
+
+  -- with a key that is new there are fewer bodies than keys
+  pub few_with : length deck < length keys
+  few_with =
+      let least : suc (length deck) ≤ length keys =
+      pigeonhole (suc (length deck)) (length keys) (λ i. first_in keys (get_or deck i d).key)
+      (λ i below. first_below keys (get_or deck i d).key (among_at i (cases_lt i (length deck))))
+      (λ i j p q e. once_at i j p q (cases_lt i (length deck)) (cases_lt j (length deck))
+      (first_same keys (get_or deck i d).key (get_or deck j d).key (among_at i (cases_lt i (length deck))) (among_at j (cases_lt j (length deck))) e)) in
+      omega arith
+
+-- ROOM FOR ONE MORE: a deck whose keys are among these, with another key that is among them
+pub few_bodies : (deck : List Module) (keys : List Key) (key : Key) → IsDeck deck → AreAmong keys deck → IsAmong keys key → IsNewKey deck key → length deck < length keys
+few_bodies deck keys key sound among here new = few_with deck keys (record { key = key; items = [] }) sound among here (new_nowhere deck key new)

@@ -1,5 +1,5 @@
 -- The parameter wires of a body, argument by argument.
-use Rattle.std.proofs.Common.{◌≡◌, ℕ, zero, suc, ◌+◌, ◌<◌, ◌≤◌, List, [], ◌∷◌, ◌++◌, length, get_or, take, drop, Option, Some, None, refl, sym, ap, ◌∙◌, arith, length-append}
+use Rattle.std.proofs.Common.{◌≡◌, ℕ, zero, suc, ◌+◌, ◌<◌, ◌≤◌, List, [], ◌∷◌, ◌++◌, length, get_or, take, drop, refl, sym, ap, ◌∙◌, arith, length-append}
 use Rattle.std.specs.Prelude.{map, flat_map, fold, replicate, reverse}
 use Rattle.std.proofs.lemmas.List.{length-replicate}
 use Rattle.sc_base.specs.declared.Class.{Class}
@@ -100,6 +100,13 @@ count_args before (a ∷ args) =
     let more = count_args (with_arg before a) args in
     let all = length-append (arg_classes a) (flat_map arg_classes args) in
     omega arith
+
+-- with the next argument there are at most as many as with all
+pub few_at : (before : Numbers) (args : List Arg) (i : ℕ) (d : Arg) → i < length args → both (fold with_arg before args) ≤ 65536
+    → both (with_arg (fold with_arg before (take i args)) (get_or args i d)) ≤ 65536
+few_at before [] i d below few = absurd (omega arith)
+few_at before (a ∷ args) zero d below few = let counted = count_args (with_arg before a) args in omega arith
+few_at before (a ∷ args) (suc i) d below few = few_at (with_arg before a) args i d (omega arith) few
 
 length_numbered : (cs : List Class) (next : Numbers) → length (numbered cs next) ≡ length cs
 length_numbered [] next = refl

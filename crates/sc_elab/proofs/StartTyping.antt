@@ -1,26 +1,39 @@
 -- The body of a checked module starts with the names of its parameters.
-use Rattle.std.proofs.Common.{◌≡◌, ℕ, zero, suc, ◌+◌, ◌<◌, ◌≤◌, List, [], ◌∷◌, length, map, Option, Some, None, refl, sym, ap, ◌∙◌, subst, arith}
-use Rattle.std.specs.Prelude.{replicate, flat_map, fold}
+use Rattle.std.proofs.Common.{◌≡◌, ℕ, ◌≤◌, List, [], ◌∷◌, map, Option, Some, None, refl, sym, ◌∙◌, subst, arith}
+use Rattle.std.specs.Prelude.{replicate, flat_map, fold, find}
+use Rattle.std.specs.Borrow.{Bor}
+use Rattle.sc_base.specs.Texts.{same}
 use Rattle.sc_base.specs.declared.Class.{Class}
-use Rattle.sc_gate.specs.declared.gate.Wire.{Wire}
-use Rattle.sc_gate.specs.Numbers.{Numbers, number_of, with_more}
+use Rattle.sc_gate.specs.Numbers.{Numbers, number_of, no_wires, with_more}
 use Rattle.sc_syntax.specs.declared.Name.{Name}
 use Rattle.sc_syntax.specs.declared.NameKind.TheVariants as kind
 use Rattle.sc_syntax.specs.declared.NumSort.{NumSort}
 use Rattle.sc_syntax.specs.declared.NumSort.TheVariants as num
-use Rattle.sc_syntax.specs.Alike.{PureSort, PureParam}
+use Rattle.sc_syntax.specs.declared.Stmt.{Stmt}
+use Rattle.sc_syntax.specs.Alike.{PurePart, PureSort, PureParam, PureStmts, in_row, pure_stmt_list, pure_source}
+use Rattle.sc_word.specs.Typed.{TypedWords}
 use Rattle.sc_deck.specs.declared.key.Arg.{Arg}
 use Rattle.sc_deck.specs.declared.key.Arg.TheVariants as arg
-use Rattle.sc_deck.specs.Keys.{arg_classes, with_arg}
-use Rattle.sc_deck.specs.Unfolding.{wires_from, numbered}
+use Rattle.sc_deck.specs.declared.key.Key.{Key}
+use Rattle.sc_deck.specs.Keys.{arg_classes, with_arg, param_classes, params_of}
+use Rattle.sc_deck.specs.Unfolding.{numbered}
 use Rattle.sc_types.specs.Sources.{param_kind}
-use Rattle.sc_types.specs.Accepted.{IsNew, with_name, AreParams, with_params}
+use Rattle.sc_types.specs.Statements.{named_wants, part_name}
+use Rattle.sc_types.specs.Accepted.{Taken, IsNew, with_name, AreFine, AreParams, with_params, IsAcceptedPart, IsAccepted}
 use Rattle.sc_types.specs.Scopes.{Known}
+use Rattle.sc_types.specs.Typing.{TypedSource}
 use Rattle.sc_meaning.specs.Arguments.{want_of, wire_params}
+use Rattle.sc_meaning.specs.Definitions.{Definition, of_module, definition}
+use Rattle.sc_meaning.specs.Programs.{definition_of, program_of}
+use Rattle.sc_meaning.specs.Run.{start_state}
+use Rattle.sc_elab.specs.declared.frame.Frame.{Frame}
+use Rattle.sc_elab.specs.declared.todo.Todo.TheVariants.{Rest}
+use Rattle.sc_elab.specs.Frames.{view}
 use Rattle.sc_elab.specs.Starting.{with_param}
 use Rattle.sc_meaning.specs.States.{Wired}
-use Rattle.sc_elab.specs.Typings.{AreOf, IsNumber, ArgFits, ArgsFit, StandsFor, ScopeAgrees, Agree}
+use Rattle.sc_elab.specs.Typings.{AreOf, IsNumber, ArgFits, ArgsFit, Takes, IsEntering, ScopeAgrees, Agree, IsTyped, IsTypedBody}
 use Rattle.sc_elab.proofs.Agreeing.{scope_grow, more_grows, scope_wires, scope_number}
+use Rattle.sc_elab.proofs.EnteringTyped.{IsDefined, defined}
 use Rattle.sc_meaning.proofs.Spanned.{length_made}
 use Rattle.sc_elab.proofs.StartLaws.{numbered_same, param_one}
 use Rattle.sc_elab.proofs.TypedParts.{fresh_of, count_more}
@@ -63,3 +76,40 @@ params_typed (p ∷ params) (a ∷ args) here scope before fine fit h =
     subst (Agree (fold with_arg (with_arg before a) args) (with_params (with_name here p.name (param_kind p.sort)) params ∷ [])) (sym (param_one p params a args before scope))
     (params_typed params args (with_name here p.name (param_kind p.sort)) (with_param scope p.name.text a before) (with_arg before a) fine.2 fit.1
     (one_param p.sort p.name a here scope before fit.0 fine.1 h))
+
+-- ---- a module that is entered
+
+module_by : (taken : Taken) (p : PurePart) (w : Option TypedWords) (name : Name) (params : List PureParam) (stmts : PureStmts) → definition_of p w ≡ of_module name params stmts → IsAcceptedPart taken p w
+    → AreParams [] params × AreFine taken [] (with_params [] params) stmts
+module_by taken (PurePart.of_module n ps body) None name params stmts is fine =
+    let parameters : ps ≡ params = cc in
+    let statements : in_row body ≡ stmts = cc in
+    subst (λ (xs : List PureParam). AreParams [] xs × AreFine taken [] (with_params [] xs) stmts) parameters
+    (fine.0, subst (AreFine taken [] (with_params [] ps)) statements fine.1)
+module_by taken (PurePart.of_module n ps body) (Some t) name params stmts is fine = absurd fine
+module_by taken (PurePart.of_words n ps width binds result) None name params stmts is fine = absurd fine
+module_by taken (PurePart.of_words n ps width binds result) (Some t) name params stmts is fine = absurd cc
+
+defined_by : (taken : Taken) (o : Option PurePart) (d : Option Definition) (name : Name) (params : List PureParam) (stmts : PureStmts) → IsDefined taken o d → d ≡ Some (of_module name params stmts)
+    → AreParams [] params × AreFine taken [] (with_params [] params) stmts
+defined_by taken None None name params stmts def is = absurd cc
+defined_by taken None (Some d) name params stmts def is = absurd def
+defined_by taken (Some p) None name params stmts def is = absurd def
+defined_by taken (Some p) (Some d) name params stmts def is =
+    let e : d ≡ of_module name params stmts = cc in
+    module_by taken p def.0 name params stmts (sym def.1 ∙ e) def.2
+
+-- THE FRAME of a module whose key is entered
+pub start_typed : (t : TypedSource) (f : Frame) (key : Key) (name : Name) (params : List PureParam) (xs : Bor (List Stmt)) → IsAccepted t → IsEntering t key
+    → definition (program_of t) key.name ≡ Some (of_module name params (pure_stmt_list xs.now))
+    → view f ≡ start_state params key.args (numbered (param_classes key) no_wires) (params_of key) → IsTypedBody t f (Rest xs ∷ [])
+start_typed t f key name params xs accepted entering is v =
+    let taken : Taken = named_wants (pure_source t.source) in
+    let fine = defined_by taken (find (λ p. same key.name (part_name p)) (pure_source t.source)) (definition (program_of t) key.name) name params (pure_stmt_list xs.now)
+    (defined taken (pure_source t.source) t.words key.name accepted) is in
+    let takes : Takes (Some (of_module name params (pure_stmt_list xs.now))) key = subst (λ (o : Option Definition). Takes o key) is entering.takes in
+    record {
+      names = with_params [] params ∷ [];
+      typed = subst (IsTyped (with_params [] params ∷ [])) (sym v) (params_typed params key.args [] [] no_wires fine.0 takes (λ q. refl));
+      fine = (tt, fine.1);
+    }

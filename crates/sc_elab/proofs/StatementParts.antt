@@ -1,5 +1,5 @@
 -- Statements as parts of a body: what they come to, what is put on the list for them, and how many steps and scopes are left.
-use Rattle.std.proofs.Common.{◌≡◌, ℕ, zero, suc, ◌+◌, ◌-◌, ◌*◌, ◌<◌, ◌≤◌, Bool, true, false, List, [], ◌∷◌, ◌++◌, length, Option, Some, None, Result, Ok, Err, refl, sym, ap, ◌∙◌, subst, arith, append_assoc, length-append, length-drop}
+use Rattle.std.proofs.Common.{◌≡◌, ℕ, zero, suc, ◌+◌, ◌-◌, ◌*◌, ◌^◌, ◌<◌, ◌≤◌, Bool, true, false, List, [], ◌∷◌, ◌++◌, length, Option, Some, None, Result, Ok, Err, refl, sym, ap, ◌∙◌, arith, append_assoc, length-drop}
 use Rattle.std.specs.Prelude.{OnOk}
 use Rattle.std.specs.Borrow.{Bor}
 use Rattle.std.specs.Option.{option_copied}
@@ -9,9 +9,9 @@ use Rattle.sc_base.specs.declared.Place.{Place}
 use Rattle.sc_syntax.specs.declared.Act.{Act, While}
 use Rattle.sc_syntax.specs.declared.Expr.{Expr}
 use Rattle.sc_syntax.specs.declared.Stmt.{Stmt}
-use Rattle.sc_syntax.specs.Alike.{PureExpr, pure_expr, pure_act, pure_stmt_list}
-use Rattle.sc_types.specs.Accepted.{Taken}
+use Rattle.sc_syntax.specs.Alike.{pure_expr, pure_act, pure_stmt_list}
 use Rattle.sc_deck.specs.Bodies.{Contents}
+use Rattle.sc_deck.specs.Turns.{last_turns}
 use Rattle.sc_value.specs.Scopes.{Scopes}
 use Rattle.sc_meaning.specs.declared.choice.Choice.{Choice}
 use Rattle.sc_meaning.specs.declared.fault.ElabFault.{ElabFault}
@@ -23,14 +23,14 @@ use Rattle.sc_elab.specs.declared.todo.Rounds.{Rounds}
 use Rattle.sc_elab.specs.declared.todo.Request.{Request}
 use Rattle.sc_elab.specs.Beginnings.{Begun}
 use Rattle.sc_meaning.specs.Definitions.{Program}
-use Rattle.sc_elab.specs.Fine.{IsFineAct, AreFineStmts, IfFine, IsFinePart, AreFineParts}
+use Rattle.sc_elab.specs.Folding.{HasRoom}
 use Rattle.sc_elab.specs.Frames.{view, Runs, IsRefused, Advanced, StopsAt}
-use Rattle.sc_meaning.specs.Outcomes.{Outcome, Done, Stopped}
+use Rattle.sc_meaning.specs.Outcomes.{Outcome, Done}
 use Rattle.sc_elab.specs.Pending.{looped, if_on, for_on, block_on, doing, pending, leaves, to_do, after_round}
 use Rattle.sc_meaning.specs.Run.{Callee, act, acts, finish}
 use Rattle.sc_meaning.specs.States.{State, with_scope, without_scope}
 use Rattle.sc_elab.specs.Stepping.{StepsFrom, Steps, holds}
-use Rattle.sc_elab.proofs.Beginning.{leaves_both, leaves_more, length_more, fine_more, fine_to_do, few_to_do, begun_still, begun_parts, begun_inside, advanced_first, stops_first, stops_from, stops_at, if_holds, if_other, if_none, if_fault, for_parts, looped_holds, looped_ends, looped_fault, looped_long, looped_body, acts_first, act_while, fine_while, fine_first, fine_round}
+use Rattle.sc_elab.proofs.Beginning.{leaves_both, leaves_more, length_more, few_to_do, begun_still, begun_parts, begun_inside, advanced_first, stops_first, stops_from, stops_at, if_holds, if_other, if_none, if_fault, for_parts, looped_holds, looped_ends, looped_fault, looped_long, looped_body, acts_first, act_while}
 use Rattle.sc_elab.proofs.Going.{runs_none, runs_from, refused_from}
 use Rattle.sc_elab.proofs.LoopParts.{stepped, unstepped, stepped_body}
 use Rattle.sc_elab.proofs.PendingLaws.{advanced_runs, advanced_parts, advanced_from, inside_parts, one_part}
@@ -65,8 +65,8 @@ pub act_refused : (program : Program) (choice : Choice) (at : Place) (task : Act
 act_refused program choice at task o f fault is refused call = refused_from choice (act program call at (pure_act task) (view f)) o f fault (is call) refused
 
 -- only the body has become another
-pub begun_others : (P : Taken → Type 0) (f g : Frame) (todo : List Todo) → g ≡ record f { body = g.body } → Begun P f todo g todo
-begun_others P f g todo same = begun_still P f g todo (ap (λ (h : Frame). h.steps) same) (ap (λ (h : Frame). length h.numbers) same)
+pub begun_others : (f g : Frame) (todo : List Todo) → g ≡ record f { body = g.body } → Begun f todo g todo
+begun_others f g todo same = begun_still f g todo (ap (λ (h : Frame). h.steps) same) (ap (λ (h : Frame). length h.numbers) same)
 
 -- ---- an `if`
 
@@ -94,19 +94,8 @@ pub if_stops : (program : Program) (choice : Choice) (e : Expr) (body : Stmt) (o
     → StopsAt choice (λ call. if_on program call e body other) f fault
 if_stops program choice e body other f fault h = stops_at choice (λ call. if_on program call e body other) f fault (λ call. if_fault program call e body other f fault h)
 
-abbrev pub FineIf : Bor Stmt → Option (Bor Stmt) → Taken → Type 0
-FineIf body other taken = IsFineAct taken (pure_act body.now.act) × IfFine taken (option_copied other)
-
-pub if_begun : (body : Bor Stmt) (other : Option (Bor Stmt)) (f g : Frame) (todo todo' : List Todo) → view g ≡ with_scope (view f) → todo' ≡ todo ++ Leave ∷ Do body ∷ []
-    → Begun (FineIf body other) f todo g todo'
-if_begun body other f g todo todo' v more =
-    begun_inside (FineIf body other) f g todo todo' (Do body ∷ []) v more refl (omega arith) (λ taken p. (p.0, tt))
-
-pub else_begun : (body : Bor Stmt) (other : Option (Bor Stmt)) (o : Bor Stmt) (f g : Frame) (todo todo' : List Todo) → other ≡ Some o → view g ≡ with_scope (view f) → todo' ≡ todo ++ Leave ∷ Do o ∷ []
-    → Begun (FineIf body other) f todo g todo'
-else_begun body other o f g todo todo' is v more =
-    begun_inside (FineIf body other) f g todo todo' (Do o ∷ []) v more refl (omega arith)
-    (λ taken p. let h : IfFine taken (option_copied (Some o)) = subst (λ (x : Option (Bor Stmt)). IfFine taken (option_copied x)) is p.1 in (h, tt))
+pub if_begun : (part : Todo) (f g : Frame) (todo todo' : List Todo) → leaves (part ∷ []) ≡ 0 → view g ≡ with_scope (view f) → todo' ≡ todo ++ Leave ∷ part ∷ [] → Begun f todo g todo'
+if_begun part f g todo todo' none v more = begun_inside f g todo todo' (part ∷ []) v more none (omega arith)
 
 -- ---- a `for` and a block
 
@@ -118,18 +107,15 @@ for_advanced program choice start r f g todo t1 t2 todo' v b one two three =
     (more_parts todo t2 todo' (Leave ∷ Loop r ∷ []) (to_do start) (more_parts todo t1 t2 (Leave ∷ []) (Loop r ∷ []) one two) three)
     (λ call. for_parts program call start r f g v)
 
-abbrev pub FineFor : Option (Bor Stmt) → Rounds → Taken → Type 0
-FineFor start r taken = IfFine taken (option_copied start) × IsFinePart taken (Loop r)
-
 pub for_begun : (start : Option (Bor Stmt)) (r : Rounds) (f g : Frame) (todo t1 t2 todo' : List Todo)
     → view g ≡ with_scope (view f) → t1 ≡ todo ++ Leave ∷ [] → t2 ≡ t1 ++ Loop r ∷ [] → todo' ≡ t2 ++ to_do start
-    → Begun (FineFor start r) f todo g todo'
+    → Begun f todo g todo'
 for_begun start r f g todo t1 t2 todo' v one two three =
     let few : (length (to_do start) ≤ 1) × (leaves (to_do start) ≡ 0) = few_to_do start in
     let l : length (to_do start) ≤ 1 = few.0 in
-    begun_inside (FineFor start r) f g todo todo' (Loop r ∷ to_do start) v
+    begun_inside f g todo todo' (Loop r ∷ to_do start) v
     (more_parts todo t2 todo' (Leave ∷ Loop r ∷ []) (to_do start) (more_parts todo t1 t2 (Leave ∷ []) (Loop r ∷ []) one two) three)
-    few.1 (omega arith) (λ taken p. (p.1, fine_to_do taken start p.0))
+    few.1 (omega arith)
 
 pub block_advanced : (program : Program) (choice : Choice) (xs : Bor (List Stmt)) (f g : Frame) (todo mid todo' : List Todo)
     → view g ≡ with_scope (view f) → g.body ≡ f.body → mid ≡ todo ++ Leave ∷ [] → todo' ≡ mid ++ Rest xs ∷ []
@@ -139,11 +125,9 @@ block_advanced program choice xs f g todo mid todo' v b one two =
     (more_parts todo mid todo' (Leave ∷ []) (Rest xs ∷ []) one two)
     (λ call. inside_parts program call (Rest xs) (view f) (view g) (acts program call (pure_stmt_list xs.now)) v (λ s. refl))
 
-pub block_begun : (xs : Bor (List Stmt)) (f g : Frame) (todo mid todo' : List Todo) → view g ≡ with_scope (view f) → mid ≡ todo ++ Leave ∷ [] → todo' ≡ mid ++ Rest xs ∷ []
-    → Begun (λ taken. AreFineStmts taken (pure_stmt_list xs.now)) f todo g todo'
+pub block_begun : (xs : Bor (List Stmt)) (f g : Frame) (todo mid todo' : List Todo) → view g ≡ with_scope (view f) → mid ≡ todo ++ Leave ∷ [] → todo' ≡ mid ++ Rest xs ∷ [] → Begun f todo g todo'
 block_begun xs f g todo mid todo' v one two =
-    begun_inside (λ taken. AreFineStmts taken (pure_stmt_list xs.now)) f g todo todo' (Rest xs ∷ []) v (more_parts todo mid todo' (Leave ∷ []) (Rest xs ∷ []) one two) refl (omega arith)
-    (λ taken p. (p, tt))
+    begun_inside f g todo todo' (Rest xs ∷ []) v (more_parts todo mid todo' (Leave ∷ []) (Rest xs ∷ []) one two) refl (omega arith)
 
 pub while_advanced : (program : Program) (choice : Choice) (at : Place) (task : Act) (e : Expr) (b : Box Stmt Global) (r : Rounds) (f : Frame) (todo todo' : List Todo)
     → task ≡ While e b → r.at ≡ at → option_copied r.test ≡ Some e → r.body.now ≡ b.value → option_copied r.advance ≡ None → todo' ≡ todo ++ Loop r ∷ []
@@ -152,11 +136,8 @@ while_advanced program choice at task e b r f todo todo' is at_is test_is body_i
     advanced_parts program choice (λ call. act program call at (pure_act task)) f f todo (Loop r ∷ []) todo' refl more
     (λ call. act_while program call at task e b r (view f) is at_is test_is body_is advance_is ∙ one_part program call (Loop r) (view f))
 
-pub while_begun : (task : Act) (e : Expr) (b : Box Stmt Global) (r : Rounds) (f : Frame) (todo todo' : List Todo)
-    → task ≡ While e b → r.body.now ≡ b.value → option_copied r.advance ≡ None → todo' ≡ todo ++ Loop r ∷ [] → Begun (λ taken. IsFineAct taken (pure_act task)) f todo f todo'
-while_begun task e b r f todo todo' is body_is advance_is more =
-    begun_parts (λ taken. IsFineAct taken (pure_act task)) f todo todo' (Loop r ∷ []) more refl (omega arith)
-    (λ taken p. ((fine_while taken task e b r.body.now is body_is p, subst (IfFine taken) (sym advance_is) tt), tt))
+pub while_begun : (r : Rounds) (f : Frame) (todo todo' : List Todo) → todo' ≡ todo ++ Loop r ∷ [] → Begun f todo f todo'
+while_begun r f todo todo' more = begun_parts f todo todo' (Loop r ∷ []) more refl (omega arith)
 
 -- ---- a statement with its step
 
@@ -186,17 +167,24 @@ stmt_long program choice p f g fault steps =
     stops_at choice (λ call. doing program call (Do p)) f fault (λ call. unstepped f g p.now.place fault (act program call p.now.place (pure_act p.now.act)) steps)
 
 -- the steps and the scopes that are left
-pub stmt_scopes : (P : Taken → Type 0) (f g h : Frame) (at : Place) (u : Unit {0}) (todo todo' : List Todo) → Steps f at (Ok u) g → Begun P g todo h todo'
+pub stmt_scopes : (f g h : Frame) (at : Place) (u : Unit {0}) (todo todo' : List Todo) → Steps f at (Ok u) g → Begun g todo h todo'
     → leaves todo' + length f.numbers ≡ leaves todo + length h.numbers
-stmt_scopes P f g h at u todo todo' steps b =
+stmt_scopes f g h at u todo todo' steps b =
     sym (ap (λ (n : Scopes). leaves todo' + length n) (step_down f g at u steps).1) ∙ b.scopes
 
-pub stmt_falls : (P : Taken → Type 0) (f g h : Frame) (at : Place) (u : Unit {0}) (todo todo' : List Todo) → Steps f at (Ok u) g → Begun P g todo h todo'
+pub stmt_falls : (f g h : Frame) (at : Place) (u : Unit {0}) (todo todo' : List Todo) → Steps f at (Ok u) g → Begun g todo h todo'
     → 6 * h.steps + length todo' + 3 ≤ 6 * f.steps + length todo
-stmt_falls P f g h at u todo todo' steps b =
+stmt_falls f g h at u todo todo' steps b =
     let down : f.steps ≡ suc g.steps = (step_down f g at u steps).0 in
     let same : h.steps ≡ g.steps = b.steps in
     let few : length todo' ≤ length todo + 3 = b.few in
+    omega arith
+
+-- a step makes room for the gates that stand for one
+pub step_room : (f g : Frame) (at : Place) (u : Unit {0}) → Steps f at (Ok u) g → HasRoom f → last_turns g.body.items + 64 < 2 ^ 64
+step_room f g at u steps room =
+    let down : f.steps ≡ suc g.steps = (step_down f g at u steps).0 in
+    let same : last_turns g.body.items ≡ last_turns f.body.items = ap (λ (b : Contents). last_turns b.items) (stepped_body f g at u steps) in
     omega arith
 
 -- ---- statements one after another
@@ -214,10 +202,6 @@ rest_stops program choice xs first rest f fault is stops =
     stops_first choice (λ call. doing program call (Rest xs)) (λ call. doing program call (Do first)) (λ call. pending program call (Rest rest ∷ []) finish) f f fault refl
     (λ call. acts_first program call xs.now first rest (view f) is) stops
 
-pub rest_none : (program : Program) (choice : Choice) (xs : Bor (List Stmt)) (f : Frame) (todo : List Todo) → xs.now ≡ [] → Advanced program choice (λ call. doing program call (Rest xs)) f todo None f todo
-rest_none program choice xs f todo is =
-    advanced_none program choice (λ call. doing program call (Rest xs)) f f todo refl (λ call. ap (λ (ys : List Stmt). acts program call (pure_stmt_list ys) (view f)) is)
-
 pub rest_scopes : (f g : Frame) (rest : Bor (List Stmt)) (todo mid todo' : List Todo) → mid ≡ todo ++ Rest rest ∷ [] → leaves todo' + length f.numbers ≡ leaves mid + length g.numbers
     → leaves todo' + length f.numbers ≡ leaves todo + length g.numbers
 rest_scopes f g rest todo mid todo' more h =
@@ -229,13 +213,6 @@ pub rest_falls : (f g : Frame) (rest : Bor (List Stmt)) (todo mid todo' : List T
 rest_falls f g rest todo mid todo' more h =
     let l : length mid ≡ length todo + length (Rest rest ∷ []) = length_more todo mid (Rest rest ∷ []) more in
     omega arith
-
-pub rest_fine : (taken : Taken) (xs : Bor (List Stmt)) (first : Bor Stmt) (rest : Bor (List Stmt)) (todo mid todo' : List Todo) → xs.now ≡ first.now ∷ rest.now → mid ≡ todo ++ Rest rest ∷ []
-    → (IsFineAct taken (pure_act first.now.act) → AreFineParts taken mid → AreFineParts taken todo')
-    → AreFineStmts taken (pure_stmt_list xs.now) → AreFineParts taken todo → AreFineParts taken todo'
-rest_fine taken xs first rest todo mid todo' is more go fine parts =
-    let both : IsFineAct taken (pure_act first.now.act) × AreFineStmts taken (pure_stmt_list rest.now) = fine_first taken xs.now first.now rest.now is fine in
-    go both.0 (fine_more taken todo mid (Rest rest ∷ []) more parts (both.1, tt))
 
 -- ---- the rounds of a loop
 
@@ -289,10 +266,6 @@ round_falls r f g h u todo mid todo' steps v one two =
     let b : length todo' ≡ length mid + length (Do r.body ∷ []) = length_more mid todo' (Do r.body ∷ []) two in
     omega arith
 
-pub round_fine : (taken : Taken) (r : Rounds) (todo mid todo' : List Todo) → mid ≡ todo ++ after_round r → todo' ≡ mid ++ Do r.body ∷ [] → IsFinePart taken (Loop r) → AreFineParts taken todo → AreFineParts taken todo'
-round_fine taken r todo mid todo' one two fine parts =
-    fine_more taken mid todo' (Do r.body ∷ []) two (fine_more taken todo mid (after_round r) one parts (fine_round taken r fine)) (fine.0, tt)
-
 pub ends_scopes : (r : Rounds) (f g : Frame) (u : Unit {0}) (todo : List Todo) → Steps f r.at (Ok u) g → leaves todo + length f.numbers ≡ leaves todo + length g.numbers
 ends_scopes r f g u todo steps = ap (λ (n : Scopes). leaves todo + length n) (sym (step_down f g r.at u steps).1)
 
@@ -331,9 +304,12 @@ body_falls r f g h todo mid todo' v more falls =
     let a : length mid ≡ length todo + length (after_round r) = length_more todo mid (after_round r) more in
     omega arith
 
-pub body_fine : (taken : Taken) (r : Rounds) (todo mid todo' : List Todo) → mid ≡ todo ++ after_round r → (IsFineAct taken (pure_act r.body.now.act) → AreFineParts taken mid → AreFineParts taken todo')
-    → IsFinePart taken (Loop r) → AreFineParts taken todo → AreFineParts taken todo'
-body_fine taken r todo mid todo' more go fine parts = go fine.0 (fine_more taken todo mid (after_round r) more parts (fine_round taken r fine))
+-- in another scope there is as much room
+pub scope_room : (f g : Frame) → view g ≡ with_scope (view f) → g.body ≡ f.body → HasRoom f → HasRoom g
+scope_room f g v body room =
+    let steps : g.steps ≡ f.steps = ap (λ (s : State). s.steps) v in
+    let same : last_turns g.body.items ≡ last_turns f.body.items = ap (λ (b : Contents). last_turns b.items) body in
+    omega arith
 
 -- ---- the end of a scope
 
@@ -365,7 +341,3 @@ nested_off f g old nested v =
     let l : leaves (old ++ Leave ∷ []) ≡ leaves old + leaves (Leave ∷ []) = leaves_both old (Leave ∷ []) in
     let n : length g.numbers ≡ length f.numbers - 1 = ap (λ (s : State). length s.numbers) v ∙ length-drop 1 f.numbers in
     omega arith
-
-pub fine_last : (taken : Taken) (old : List Todo) (next : Todo) → AreFineParts taken (old ++ next ∷ []) → AreFineParts taken old × IsFinePart taken next
-fine_last taken [] next h = (tt, h.0)
-fine_last taken (t ∷ old) next h = ((h.0, (fine_last taken old next h.1).0), (fine_last taken old next h.1).1)

@@ -1,25 +1,23 @@
 -- A body's steps only fall, so a loop needs no more fuel than the steps that are left.
-use Rattle.std.proofs.Common.{◌≡◌, ℕ, zero, suc, ◌+◌, ◌<◌, ◌≤◌, Bool, true, false, cond, List, [], ◌∷◌, ◌++◌, length, Option, Some, None, Result, Ok, Err, refl, sym, ap, ◌∙◌, subst, arith}
+use Rattle.std.proofs.Common.{◌≡◌, ℕ, zero, suc, ◌+◌, ◌≤◌, Bool, true, false, cond, List, [], ◌∷◌, ◌++◌, Option, Some, None, Result, Ok, Err, refl, subst, arith}
 use Rattle.std.specs.Prelude.{ℤ, pos, negsuc, nat_le}
 use Rattle.sc_base.specs.declared.Place.{Place}
 use Rattle.sc_base.specs.declared.Class.{Class}
 use Rattle.sc_gate.specs.Numbers.{Numbers}
-use Rattle.sc_gate.specs.declared.gate.Gate.{Gate}
 use Rattle.sc_syntax.specs.declared.Name.{Name}
 use Rattle.sc_syntax.specs.declared.NumSort.{NumSort}
 use Rattle.sc_syntax.specs.declared.Callee.TheVariants as called
 use Rattle.sc_syntax.specs.Alike.{PureExpr, PureNamed, PureAct, PureHeld, PureStmts}
-use Rattle.sc_value.specs.declared.Value.{Value}
 use Rattle.sc_value.specs.Numbers.{is_true}
 use Rattle.sc_deck.specs.Events.{Event, Fresh, Apply}
 use Rattle.sc_meaning.specs.declared.fault.ElabFault.{ElabFault}
 use Rattle.sc_meaning.specs.declared.fault.ElabFault.TheVariants.{TooLong, TooWide, BadSize}
-use Rattle.sc_meaning.specs.Arguments.{Passed, prepared}
+use Rattle.sc_meaning.specs.Arguments.{prepared}
 use Rattle.sc_meaning.specs.Definitions.{Definition, Program, definition}
 use Rattle.sc_meaning.specs.Outcomes.{Outcome, Done, Stopped, after, then_do, given, leaving}
-use Rattle.sc_meaning.specs.Run.{Callee, step_of, step, make_wires, size_of, declare_wires, declare_numbers, set_number, apply, measured, back_in, enter_with, call_named, by_truth, choose, finish, rounds, tested, untested, loop, act, maybe, otherwise, acts}
+use Rattle.sc_meaning.specs.Run.{Callee, step_of, step, make_wires, size_of, declare_wires, declare_numbers, apply, measured, back_in, enter_with, call_named, by_truth, choose, finish, rounds, tested, untested, loop, act, maybe, otherwise, acts}
 use Rattle.sc_meaning.specs.States.{State, with_fresh, with_number, with_new_value, with_scope, without_scope, inside}
-use Rattle.sc_meaning.specs.Values.{number, whole_number, start_value, new_value, old_value}
+use Rattle.sc_meaning.specs.Values.{number, start_value, new_value, old_value}
 use Rattle.sc_meaning.specs.Arguments.{called_gate}
 
 -- at most n steps are left after it

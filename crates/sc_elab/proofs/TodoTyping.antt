@@ -34,6 +34,3 @@ pub record Puts (taken : Taken) (names after : Stack) (parts : List Todo) : Type
 
 pub puts : (taken : Taken) (names after : Stack) (old parts : List Todo) → Puts taken names after parts → AreFineParts taken after old → AreFineParts taken names (old ++ parts)
 puts taken names after old parts h k = fine_joined taken names old parts (subst (λ (n : Stack). AreFineParts taken n old) (sym h.leaves) k) h.fine
-
-pub puts_none : (taken : Taken) (names : Stack) → Puts taken names names []
-puts_none taken names = record { fine = tt; leaves = refl }

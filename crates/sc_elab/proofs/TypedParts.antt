@@ -1,38 +1,37 @@
 -- Parts of a run keep its typing: what each combinator leaves.
-use Rattle.std.proofs.Common.{◌≡◌, ℕ, zero, suc, ◌+◌, ◌<◌, ◌≤◌, Bool, true, false, cond, List, [], ◌∷◌, ◌++◌, length, drop, Option, Some, None, Result, Ok, Err, refl, sym, ap, ◌∙◌, subst, arith}
+use Rattle.std.proofs.Common.{◌≡◌, ℕ, zero, suc, ◌+◌, ◌≤◌, Bool, true, false, cond, List, [], ◌∷◌, drop, Option, Some, None, Result, Ok, Err, refl, ap, ◌∙◌, subst, arith}
 use Rattle.std.specs.Prelude.{ℤ, pos, negsuc, nat_le}
 use Rattle.std.specs.List.{AllByRecursion}
 use Rattle.sc_base.specs.declared.Place.{Place}
 use Rattle.sc_base.specs.declared.Class.{Class}
 use Rattle.sc_base.specs.declared.Class.TheVariants.{Q, C}
-use Rattle.sc_gate.specs.declared.gate.Wire.{Wire}
 use Rattle.sc_gate.specs.Numbers.{Numbers, number_of, with_more}
 use Rattle.sc_syntax.specs.declared.Name.{Name}
 use Rattle.sc_syntax.specs.declared.NameKind.TheVariants as kind
 use Rattle.sc_syntax.specs.declared.NumSort.{NumSort}
 use Rattle.sc_syntax.specs.declared.SetOp.{SetOp}
 use Rattle.sc_syntax.specs.Alike.{PureExpr, PureNamed}
-use Rattle.sc_value.specs.declared.Value.{Value}
 use Rattle.sc_value.specs.Scopes.{Scopes}
 use Rattle.sc_deck.specs.Events.{Event, Fresh}
 use Rattle.sc_deck.specs.Unfolding.{wires_from}
 use Rattle.sc_types.specs.Statements.{wire_kind}
 use Rattle.sc_types.specs.Accepted.{AreWires, IsNew, with_name, with_wires as with_wire_names, with_numbers}
-use Rattle.sc_types.specs.Scopes.{Known, Stack, known}
+use Rattle.sc_types.specs.Scopes.{Known, Stack}
 use Rattle.sc_meaning.specs.declared.choice.Choice.{Choice}
 use Rattle.sc_meaning.specs.declared.fault.ElabFault.{ElabFault}
 use Rattle.sc_meaning.specs.declared.fault.ElabFault.TheVariants.{TooWide, TooManyInstances}
 use Rattle.sc_elab.specs.declared.frame.Frame.{Frame}
+use Rattle.sc_elab.specs.Folding.{written}
 use Rattle.sc_elab.specs.Frames.{view, made, Runs}
 use Rattle.sc_meaning.specs.Local.{Made, make, ran}
-use Rattle.sc_meaning.specs.Outcomes.{Outcome, Done, Stopped, after, then_do, given, leaving}
+use Rattle.sc_meaning.specs.Outcomes.{Outcome, Done, Stopped, after, then_do, given}
 use Rattle.sc_meaning.specs.Run.{size_of, make_wires, declare_wires, declare_numbers, set_number}
 use Rattle.sc_meaning.specs.States.{State, with_fresh, with_number, with_new_value, with_scope, without_scope}
-use Rattle.sc_elab.specs.Typings.{IsOf, AreOf, StandsFor, IsTyped}
+use Rattle.sc_elab.specs.Typings.{IsOf, StandsFor, IsTyped}
 use Rattle.sc_meaning.specs.Values.{start_value, new_value, old_value}
 use Rattle.sc_elab.proofs.Agreeing.{agree_grow, more_grows, agree_wires, agree_number, agree_enter, agree_leave}
 use Rattle.sc_meaning.proofs.Ran.{many}
-use Rattle.sc_meaning.proofs.Spanned.{wire, length_made}
+use Rattle.sc_meaning.proofs.Spanned.{length_made}
 
 -- what a part leaves, where it is done
 abbrev pub Leaves : {A : Type 0} → (A → Type 0) → Outcome A → Type 0
@@ -50,10 +49,6 @@ leaves_then P R (Stopped events fault) go h next = tt
 pub leaves_given : {A B : Type 0} (R : B → Type 0) (r : Result A ElabFault) (go : A → Outcome B) → ((a : A) → r ≡ Ok a → Leaves R (go a)) → Leaves R (given r go)
 leaves_given R (Ok a) go next = next a refl
 leaves_given R (Err fault) go next = tt
-
-pub leaves_leaving : {A B : Type 0} (P : A → Type 0) (R : B → Type 0) (f : A → B) (o : Outcome A) → Leaves P o → ((a : A) → P a → R (f a)) → Leaves R (leaving f o)
-leaves_leaving P R f (Done events a) h next = next a h
-leaves_leaving P R f (Stopped events fault) h next = tt
 
 -- ---- declared wires
 
@@ -138,4 +133,4 @@ ran_leaves P choice m n (Stopped events f) c h e = none_left P (many (make choic
 
 -- what holds of all that a part leaves holds of the frame
 pub runs_leaves : (P : State → Type 0) (choice : Choice) (o : Outcome State) (f g : Frame) → Leaves P o → Runs choice o f g → P (view g)
-runs_leaves P choice o f g h runs = ran_leaves P choice (made [] f.body.items [] [] []) (made [] g.body.items [] [] []) o (view g) h (runs [] [] [] [] refl)
+runs_leaves P choice o f g h runs = ran_leaves P choice (made [] (written f.body.items) [] [] []) (made [] (written g.body.items) [] [] []) o (view g) h (runs [] [] [] [] refl)

@@ -1,5 +1,5 @@
 -- What the elaborator's functions promise of their frames.
-use Rattle.std.specs.Prelude.{◌≡◌, ◌≢◌, ℕ, ◌+◌, ◌*◌, ◌<◌, ◌≤◌, nat_lt, false, List, [], ◌∷◌, length, map, reverse, Option, Result, Ok, Err}
+use Rattle.std.specs.Prelude.{◌≡◌, ℕ, nat_lt, false, List, ◌∷◌, length, map, reverse, Option, Ok, Err}
 use Rattle.sc_gate.specs.declared.gate.Wire.{Wire}
 use Rattle.sc_gate.specs.Numbers.{both}
 use Rattle.sc_deck.specs.declared.Key.{Key}
@@ -16,6 +16,7 @@ use Rattle.sc_meaning.specs.Outcomes.{Outcome, then_do}
 use Rattle.sc_meaning.specs.Definitions.{Program}
 use Rattle.sc_meaning.specs.Run.{Callee}
 use Rattle.sc_meaning.specs.States.{State, Wired}
+use Rattle.sc_elab.specs.Folding.{written}
 use Rattle.sc_elab.specs.Spans.{span_wires}
 use Rattle.sc_meaning.specs.Local.{Half, Made, ran}
 use Rattle.sc_elab.specs.Pending.{pending, after_asked}
@@ -38,7 +39,7 @@ view f = record {
   width = both (wires_of f.body);
 }
 
--- what has been made while a body with these items is open, entered with these wires inside of the others
+-- what has been made while a body that stands for these items is open, entered with these wires inside of the others
 abbrev pub made : List Wire → List Item → List Half → List Module → List Key → Made
 made ws items rest deck keys = record { opened = record { wires = ws; items = items } ∷ rest; deck = deck; keys = keys }
 
@@ -51,17 +52,17 @@ Everywhere items items' P =
 -- the code does what a part without calls does
 abbrev pub Runs : Choice → Outcome State → Frame → Frame → Type 0
 Runs choice outcome f f' =
-    Everywhere f.body.items f'.body.items (λ m m'. ran choice m outcome ≡ Ok (view f', m'))
+    Everywhere (written f.body.items) (written f'.body.items) (λ m m'. ran choice m outcome ≡ Ok (view f', m'))
 
 -- a part without calls is refused
 abbrev pub IsRefused : Choice → Outcome State → Frame → ElabFault → Type 0
-IsRefused choice outcome f fault = Everywhere f.body.items f.body.items (λ m m'. ran choice m outcome ≡ Err fault)
+IsRefused choice outcome f fault = Everywhere (written f.body.items) (written f.body.items) (λ m m'. ran choice m outcome ≡ Err fault)
 
 -- a part was done as far as it goes without a call
 abbrev pub Advanced : Program → Choice → (Callee → State → Outcome State) → Frame → List Todo → Option Request → Frame → List Todo → Type 0
 Advanced program choice part f todo r f' todo' =
     (call : Callee) (go : State → Outcome State) →
-    Everywhere f.body.items f'.body.items (λ m m'.
+    Everywhere (written f.body.items) (written f'.body.items) (λ m m'.
     ran choice m (then_do (part call (view f)) (pending program call todo go)) ≡ ran choice m' (after_asked call r (pending program call todo' go) (view f')))
 
 -- a part is refused before it comes to a call

@@ -1,5 +1,5 @@
 -- The bodies of classical functions, as the code makes them.
-use Rattle.std.specs.Prelude.{◌≡◌, ◌≤◌, ℕ, nat_lt, false, List, [], ◌∷◌, map, flat_map, length, Ok, Err}
+use Rattle.std.specs.Prelude.{◌≡◌, ◌≤◌, nat_lt, false, List, [], ◌∷◌, map, length, Ok, Err}
 use Rattle.sc_base.specs.declared.Class.TheVariants.{Q}
 use Rattle.sc_gate.specs.declared.gate.Wire.{Wire}
 use Rattle.sc_gate.specs.Numbers.{Numbers, no_wires, both}
@@ -16,6 +16,7 @@ use Rattle.sc_deck.specs.Unfolding.{numbered}
 use Rattle.sc_meaning.specs.declared.choice.Choice.{Choice}
 use Rattle.sc_meaning.specs.declared.fault.ElabFault.{ElabFault}
 use Rattle.sc_meaning.specs.Definitions.{Function}
+use Rattle.sc_elab.specs.Folding.{written}
 use Rattle.sc_elab.specs.Frames.{made}
 use Rattle.sc_meaning.specs.Instances.{chosen}
 use Rattle.sc_meaning.specs.Local.{Half, ran}
@@ -37,14 +38,14 @@ chosen_items choice (item.Gate gate) = map item.Gate (chosen choice gate)
 chosen_items choice _ = []
 
 -- an item may stand behind so many wires, and there are at most 65,536 with it
-abbrev pub HasRoom : Numbers → Item → Type 0
-HasRoom numbers i = ItemFits numbers i × (both (after_item numbers i) ≤ 65536)
+abbrev pub FitsBehind : Numbers → Item → Type 0
+FitsBehind numbers i = ItemFits numbers i × (both (after_item numbers i) ≤ 65536)
 
 -- the code makes the items of a body without calls
 abbrev pub MakesBody : Choice → Outcome Numbers → Contents → Type 0
 MakesBody choice outcome body =
     (ws : List Wire) (rest : List Half) (deck : List Module) (keys : List Key) → nat_lt 65536 (length keys) ≡ false →
-    ran choice (made ws [] rest deck keys) outcome ≡ Ok (wires_of body, made ws body.items rest deck keys)
+    ran choice (made ws [] rest deck keys) outcome ≡ Ok (wires_of body, made ws (written body.items) rest deck keys)
 
 -- such a body is refused
 abbrev pub MakesNone : Choice → Outcome Numbers → ElabFault → Type 0

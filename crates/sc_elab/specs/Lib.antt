@@ -1,7 +1,7 @@
 pub mod Beginnings
 pub mod Callees
 pub mod Evaluated
-pub mod Fine
+pub mod Folding
 pub mod Frames
 pub mod FunctionBodies
 pub mod Gating

@@ -1,13 +1,10 @@
 -- What is still to do in a body, and what one part of it promises.
-use Rattle.std.specs.Prelude.{◌≡◌, ℕ, suc, ◌+◌, ◌*◌, ◌<◌, ◌≤◌, nat_lt, false, Option, Some, None, option_map, List, [], ◌∷◌, ◌++◌, length, Result, Ok, Err}
+use Rattle.std.specs.Prelude.{ℕ, suc, Option, Some, None, option_map, List, [], ◌∷◌, ◌++◌}
 use Rattle.std.specs.Borrow.{Bor}
 use Rattle.std.specs.Option.{option_copied}
-use Rattle.sc_base.specs.declared.Place.{Place}
-use Rattle.sc_gate.specs.declared.gate.Wire.{Wire}
 use Rattle.sc_syntax.specs.declared.Expr.{Expr}
 use Rattle.sc_syntax.specs.declared.Stmt.{Stmt}
-use Rattle.sc_syntax.specs.Alike.{PureExpr, PureAct, PureHeld, pure_expr, pure_act, pure_stmt_list}
-use Rattle.sc_deck.specs.declared.Key.{Key}
+use Rattle.sc_syntax.specs.Alike.{PureAct, PureHeld, pure_expr, pure_act, pure_stmt_list}
 use Rattle.sc_elab.specs.declared.todo.Todo.{Todo}
 use Rattle.sc_elab.specs.declared.todo.Todo.TheVariants.{Do, Loop, Rest, Leave}
 use Rattle.sc_elab.specs.declared.todo.Rounds.{Rounds}
@@ -20,6 +17,20 @@ use Rattle.sc_meaning.specs.States.{State, inside, without_scope}
 abbrev pub held_by : Option Stmt → PureHeld
 held_by None = PureHeld.absent
 held_by (Some s) = PureHeld.held s.place (pure_act s.act)
+
+-- ---- statements of the tree, with their parts as the code holds them
+
+abbrev pub if_act : Expr → Stmt → Option Stmt → PureAct
+if_act test body other = PureAct.if_else (pure_expr test) body.place (pure_act body.act) (held_by other)
+
+abbrev pub for_act : Option Stmt → Rounds → PureAct
+for_act start r =
+    PureAct.for_loop (held_by start) (option_map pure_expr (option_copied r.test)) (held_by (option_copied r.advance)) r.body.now.place (pure_act r.body.now.act)
+
+abbrev pub block_act : List Stmt → PureAct
+block_act stmts = PureAct.block (pure_stmt_list stmts)
+
+-- ---- what they do
 
 -- a round of a loop without its test: the body in a scope of its own, and then the advance
 abbrev pub round_of : Program → Callee → Stmt → PureHeld → State → Outcome State

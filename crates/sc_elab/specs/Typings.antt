@@ -10,7 +10,7 @@ use Rattle.sc_gate.specs.Gates.{class_of, AreDistinct}
 use Rattle.sc_gate.specs.Numbers.{Numbers, both, IsThere, AreThere}
 use Rattle.sc_syntax.specs.declared.NameKind.{NameKind}
 use Rattle.sc_syntax.specs.declared.NameKind.TheVariants as kind
-use Rattle.sc_syntax.specs.Alike.{PureStmts, pure_act, pure_stmt_list, pure_source}
+use Rattle.sc_syntax.specs.Alike.{PureAct, PureStmts, pure_act, pure_stmt_list, pure_source}
 use Rattle.sc_deck.specs.declared.Arg.{Arg}
 use Rattle.sc_deck.specs.declared.Arg.TheVariants as arg
 use Rattle.sc_deck.specs.declared.Key.{Key}
@@ -108,9 +108,9 @@ ArgsFit [] [] = Unit {0}
 ArgsFit (t ∷ ts) (a ∷ args) = ArgFits t a × ArgsFit ts args
 ArgsFit _ _ = ⊥
 
--- the arguments of a key are those that its definition takes
+-- a key has a definition, and its arguments are those that it takes
 abbrev pub Takes : Option Definition → Key → Type 0
-Takes None key = Unit {0}
+Takes None key = ⊥
 Takes (Some (of_module name params body)) key = ArgsFit (map (λ p. want_of p.sort) params) key.args
 Takes (Some (of_function name f)) key = HasWidths f key
 
@@ -162,6 +162,14 @@ pub record IsTypedBody (t : TypedSource) (f : Frame) (todo : List Todo) : Type 0
   pub names : Stack
   pub typed : IsTyped names (view f)
   pub fine : AreFineParts (named_wants (pure_source t.source)) names todo
+
+-- the same where an act comes first: its checks pass where these names are known
+pub record IsTypedAct (t : TypedSource) (f : Frame) (a : PureAct) (todo : List Todo) : Type 0 where
+  pub outer : Stack
+  pub here : List Known
+  pub typed : IsTyped (here ∷ outer) (view f)
+  pub fine : IsFine (named_wants (pure_source t.source)) outer here a
+  pub others : AreFineParts (named_wants (pure_source t.source)) (names_after here a ∷ outer) todo
 
 -- a call that a body has come to: its callee takes it, and its wires are distinct wires of the body
 pub record IsTypedCall (t : TypedSource) (f : Frame) (r : Request) : Type 0 where

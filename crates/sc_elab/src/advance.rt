@@ -1,16 +1,24 @@
 //! What one part of a body does, up to a call.
-ghost use Rattle.std.specs.Prelude.{◌≡◌, ◌≢◌, ◌+◌, ◌*◌, ◌<◌, ◌≤◌, List, [], ◌∷◌, ◌++◌, map, option_map, length, None, Some, Ok, Err, OnOk, IfOk, IfErr};
+ghost use Rattle.std.specs.Prelude.{◌≡◌, ◌≢◌, ◌+◌, ◌*◌, ◌<◌, ◌≤◌, ◌^◌, List, [], ◌∷◌, ◌++◌, map, option_map, length, None, Some, Ok, Err, OnOk, IfOk, IfErr, IfSome};
 ghost use Rattle.std.specs.Option.{option_copied};
-ghost use Rattle.sc_syntax.specs.Alike.{pure_expr, pure_act, pure_stmt_list};
+ghost use Rattle.sc_syntax.specs.Alike.{pure_expr, pure_operand, pure_act};
 ghost use Rattle.sc_value.specs.Numbers.{is_true};
+ghost use Rattle.sc_gate.specs.Numbers.{both};
+ghost use Rattle.sc_deck.specs.Bodies.{wires_of};
+ghost use Rattle.sc_deck.specs.Decks.{CallsFit};
+ghost use Rattle.sc_deck.specs.Items.{GateFits};
+ghost use Rattle.sc_deck.specs.Modules.{Module};
+ghost use Rattle.sc_deck.specs.Turns.{last_turns};
 ghost use Rattle.sc_types.specs.Accepted.{IsAccepted};
-ghost use Rattle.sc_elab.specs.Beginnings.{Begun};
-ghost use Rattle.sc_elab.specs.Fine.{taken_by_source, IsFineAct, IsFineCall, AreFineStmts, IfFine, IsFinePart, AreFineParts, FitsRequest};
+ghost use Rattle.sc_elab.specs.Beginnings.{Begun, AddsNoCall};
+ghost use Rattle.sc_elab.specs.Folding.{IsFolded, HasRoom, HasRoomFor};
 ghost use Rattle.sc_elab.specs.Frames.{view, Runs, IsRefused, Advanced, StopsAt};
-ghost use Rattle.sc_elab.specs.Pending.{doing, looped, leaves, if_on, for_on, block_on, to_do, after_round};
+ghost use Rattle.sc_elab.specs.Pending.{doing, looped, leaves, if_act, for_act, block_act, if_on, for_on, block_on, to_do, after_round};
+ghost use Rattle.sc_elab.specs.Typings.{IsTypedBody, IsTypedAct, IsTypedCall};
+ghost use Rattle.sc_meaning.specs.Arguments.{called_gate};
 ghost use Rattle.sc_meaning.specs.Programs.{program_of};
 ghost use Rattle.sc_elab.specs.Gating.{measure_on, gate_on_args, call_on};
-ghost use Rattle.sc_meaning.specs.Run.{apply, act};
+ghost use Rattle.sc_meaning.specs.Run.{apply, act, measured};
 ghost use Rattle.sc_meaning.specs.States.{with_scope};
 ghost use Rattle.sc_elab.specs.Stepping.{Steps, holds};
 
@@ -21,6 +29,7 @@ use crate::gates::{called_gate, measured, push_chosen};
 use crate::numbers::number;
 use crate::todo::{Request, Rounds, Todo};
 use sc_base::{GateName, Memory, Place};
+use sc_deck::Body;
 use sc_gate::Gate;
 use sc_meaning::{Choice, ElabFault};
 use sc_syntax::{Act, Call, Callee, Expr, Measure, Stmt};
@@ -75,19 +84,38 @@ fn holds(frame: &Frame, test: &Expr) -> Result<bool, ElabFault>
     Ok(is_true(number(&frame.numbers, test)?))
 }
 
+/// A body has at most 65,536 wires, and so has the key of a call that it comes to.
+fn is_narrow(body: &Body)
+    ensures { both (wires_of body.now) ≤ 65536 }
+{
+    let _ = body.wires();
+}
+
 /// A gate is applied.
 fn apply(choice: Choice, frame: &mut Frame, gate: Gate) -> Result<(), Memory>
+    requires fits { GateFits (wires_of frame.old.body) gate }
+    requires turns { last_turns frame.old.body.items + 64 < 2 ^ 64 }
+    requires folded { IsFolded frame.old.body.items }
     ensures runs { OnOk result (Runs choice (apply (view frame.old) gate) frame.old frame.new) }
     ensures others { frame.new ≡ record frame.old { body = frame.new.body } }
+    ensures view { OnOk result (view frame.new ≡ view frame.old) }
+    ensures adds { OnOk result (AddsNoCall frame.old.body frame.new.body) }
+    ensures turns { OnOk result (last_turns frame.new.body.items < last_turns frame.old.body.items + 64) }
 {
     push_chosen(&mut frame.body, choice, gate)
 }
 
 /// A measurement into a classical bit.
 fn measure(given: Given<'_>, frame: &mut Frame, task: &Measure) -> Result<(), ElabFault>
+    requires fits { IfOk (measured (view frame.old) task.now.gate (pure_operand task.now.into) (pure_operand task.now.from)) (GateFits (wires_of frame.old.body)) }
+    requires turns { last_turns frame.old.body.items + 64 < 2 ^ 64 }
+    requires folded { IsFolded frame.old.body.items }
     ensures ok { OnOk result (Runs given.entry.choice (measure_on task.now (view frame.old)) frame.old frame.new) }
     ensures err { IfErr result (λ f. f ≢ ElabFault.Memory → IsRefused given.entry.choice (measure_on task.now (view frame.old)) frame.old f) }
     ensures others { frame.new ≡ record frame.old { body = frame.new.body } }
+    ensures view { OnOk result (view frame.new ≡ view frame.old) }
+    ensures adds { OnOk result (AddsNoCall frame.old.body frame.new.body) }
+    ensures turns { OnOk result (last_turns frame.new.body.items < last_turns frame.old.body.items + 64) }
 {
     let gate = measured(given.alloc, frame, task)?;
     apply(given.choice, frame, gate)?;
@@ -101,9 +129,15 @@ fn call_gate(
     gate: GateName,
     args: &[Expr],
 ) -> Result<(), ElabFault>
+    requires fits { IfOk (called_gate (view frame.old) gate (map pure_expr args.now)) (GateFits (wires_of frame.old.body)) }
+    requires turns { last_turns frame.old.body.items + 64 < 2 ^ 64 }
+    requires folded { IsFolded frame.old.body.items }
     ensures ok { OnOk result (Runs given.entry.choice (gate_on_args gate (map pure_expr args.now) (view frame.old)) frame.old frame.new) }
     ensures err { IfErr result (λ f. f ≢ ElabFault.Memory → IsRefused given.entry.choice (gate_on_args gate (map pure_expr args.now) (view frame.old)) frame.old f) }
     ensures others { frame.new ≡ record frame.old { body = frame.new.body } }
+    ensures view { OnOk result (view frame.new ≡ view frame.old) }
+    ensures adds { OnOk result (AddsNoCall frame.old.body frame.new.body) }
+    ensures turns { OnOk result (last_turns frame.new.body.items < last_turns frame.old.body.items + 64) }
 {
     let gate = called_gate(given.alloc, frame, gate, args)?;
     apply(given.choice, frame, gate)?;
@@ -116,10 +150,17 @@ fn begin_call<'a>(
     frame: &mut Frame,
     call: &Call,
 ) -> Result<Option<Request>, ElabFault>
+    requires accepted { IsAccepted given.checked.now }
+    requires typed { IsTypedAct given.checked.now frame.old (pure_act (Act.Call call.now)) [] }
+    requires turns { last_turns frame.old.body.items + 64 < 2 ^ 64 }
+    requires folded { IsFolded frame.old.body.items }
     ensures ok { IfOk result (λ r. (todo : List Todo) → Advanced (program_of given.entry.checked.now) given.entry.choice (λ c. call_on (program_of given.entry.checked.now) c call.now.callee (map pure_expr call.now.args)) frame.old todo r frame.new todo) }
-    ensures fits { IfOk result (λ r. IsAccepted given.entry.checked.now → IsFineCall (taken_by_source given.entry.checked.now) call.now → FitsRequest (program_of given.entry.checked.now) r) }
     ensures err { IfErr result (λ f. f ≢ ElabFault.Memory → StopsAt given.entry.choice (λ c. call_on (program_of given.entry.checked.now) c call.now.callee (map pure_expr call.now.args)) frame.old f) }
     ensures others { frame.new ≡ record frame.old { body = frame.new.body } }
+    ensures call { IfOk result (λ r. IfSome r (λ q. IsTypedCall given.entry.checked.now frame.new q)) }
+    ensures view { OnOk result (view frame.new ≡ view frame.old) }
+    ensures adds { OnOk result (AddsNoCall frame.old.body frame.new.body) }
+    ensures turns { OnOk result (last_turns frame.new.body.items < last_turns frame.old.body.items + 64) }
 {
     let args = call.args.as_slice();
     match &call.callee {
@@ -130,6 +171,7 @@ fn begin_call<'a>(
         Callee::Named(name) => match definition(given.checked, name) {
             None => Ok(None),
             Some(callee) => {
+                is_narrow(&frame.body);
                 let request = prepared(given.alloc, frame, name, callee, args)?;
                 Ok(Some(request))
             }
@@ -146,9 +188,12 @@ fn begin_if<'a>(
     body: &'a Stmt,
     other: Option<&'a Stmt>,
 ) -> Result<(), ElabFault>
+    requires typed { IsTypedAct given.checked.now frame.old (if_act test.now body.now (option_copied other)) todo.old.items }
     ensures ok { OnOk result (Advanced (program_of given.entry.checked.now) given.entry.choice (λ c. if_on (program_of given.entry.checked.now) c test.now body.now (option_copied other.entry)) frame.old todo.old.items None frame.new todo.new.items) }
     ensures err { IfErr result (λ f. f ≢ ElabFault.Memory → StopsAt given.entry.choice (λ c. if_on (program_of given.entry.checked.now) c test.now body.now (option_copied other.entry)) frame.old f) }
-    ensures begun { OnOk result (Begun (λ taken. IsFineAct taken (pure_act body.now.act) × IfFine taken (option_copied other.entry)) frame.old todo.old.items frame.new todo.new.items) }
+    ensures begun { OnOk result (Begun frame.old todo.old.items frame.new todo.new.items) }
+    ensures typed { OnOk result (IsTypedBody given.entry.checked.now frame.new todo.new.items) }
+    ensures body { OnOk result (frame.new.body ≡ frame.old.body) }
 {
     let chosen = holds(frame, test)?;
     if chosen {
@@ -181,8 +226,11 @@ fn begin_for<'a>(
     start: Option<&'a Stmt>,
     rounds: Rounds<'a>,
 ) -> Result<(), Memory>
+    requires typed { IsTypedAct given.checked.now frame.old (for_act (option_copied start) rounds) todo.old.items }
     ensures ok { OnOk result (Advanced (program_of given.entry.checked.now) given.entry.choice (λ c. for_on (program_of given.entry.checked.now) c (option_copied start.entry) rounds.entry) frame.old todo.old.items None frame.new todo.new.items) }
-    ensures begun { OnOk result (Begun (λ taken. IfFine taken (option_copied start.entry) × IsFinePart taken (Todo.Loop rounds.entry)) frame.old todo.old.items frame.new todo.new.items) }
+    ensures begun { OnOk result (Begun frame.old todo.old.items frame.new todo.new.items) }
+    ensures typed { OnOk result (IsTypedBody given.entry.checked.now frame.new todo.new.items) }
+    ensures body { OnOk result (frame.new.body ≡ frame.old.body) }
 {
     frame.enter(given.alloc)?;
     push(todo, Todo::Leave)?;
@@ -197,8 +245,11 @@ fn begin_block<'a>(
     todo: &mut Vec<Todo<'a>>,
     stmts: &'a [Stmt],
 ) -> Result<(), Memory>
+    requires typed { IsTypedAct given.checked.now frame.old (block_act stmts.now) todo.old.items }
     ensures ok { OnOk result (Advanced (program_of given.entry.checked.now) given.entry.choice (λ c. block_on (program_of given.entry.checked.now) c stmts.now) frame.old todo.old.items None frame.new todo.new.items) }
-    ensures begun { OnOk result (Begun (λ taken. AreFineStmts taken (pure_stmt_list stmts.now)) frame.old todo.old.items frame.new todo.new.items) }
+    ensures begun { OnOk result (Begun frame.old todo.old.items frame.new todo.new.items) }
+    ensures typed { OnOk result (IsTypedBody given.entry.checked.now frame.new todo.new.items) }
+    ensures body { OnOk result (frame.new.body ≡ frame.old.body) }
 {
     frame.enter(given.alloc)?;
     push(todo, Todo::Leave)?;
@@ -222,10 +273,17 @@ fn begin<'a>(
     at: Place,
     task: &'a Act,
 ) -> Result<Option<Request>, ElabFault>
+    requires accepted { IsAccepted given.checked.now }
+    requires typed { IsTypedAct given.checked.now frame.old (pure_act task.now) todo.old.items }
+    requires turns { last_turns frame.old.body.items + 64 < 2 ^ 64 }
+    requires folded { IsFolded frame.old.body.items }
     ensures ok { IfOk result (λ r. Advanced (program_of given.entry.checked.now) given.entry.choice (λ c. act (program_of given.entry.checked.now) c at (pure_act task.now)) frame.old todo.old.items r frame.new todo.new.items) }
-    ensures fits { IfOk result (λ r. IsAccepted given.entry.checked.now → IsFineAct (taken_by_source given.entry.checked.now) (pure_act task.now) → FitsRequest (program_of given.entry.checked.now) r) }
     ensures err { IfErr result (λ f. f ≢ ElabFault.Memory → StopsAt given.entry.choice (λ c. act (program_of given.entry.checked.now) c at (pure_act task.now)) frame.old f) }
-    ensures begun { OnOk result (Begun (λ taken. IsFineAct taken (pure_act task.now)) frame.old todo.old.items frame.new todo.new.items) }
+    ensures begun { OnOk result (Begun frame.old todo.old.items frame.new todo.new.items) }
+    ensures typed { OnOk result (IsTypedBody given.entry.checked.now frame.new todo.new.items) }
+    ensures call { IfOk result (λ r. IfSome r (λ q. IsTypedCall given.entry.checked.now frame.new q)) }
+    ensures adds { OnOk result (AddsNoCall frame.old.body frame.new.body) }
+    ensures turns { OnOk result (last_turns frame.new.body.items < last_turns frame.old.body.items + 64) }
 {
     match task {
         Act::Wires(class, decls) => {
@@ -284,12 +342,18 @@ fn begin_stmt<'a>(
     todo: &mut Vec<Todo<'a>>,
     stmt: &'a Stmt,
 ) -> Result<Option<Request>, ElabFault>
+    requires accepted { IsAccepted given.checked.now }
+    requires typed { IsTypedBody given.checked.now frame.old (todo.old.items ++ Todo.Do stmt ∷ []) }
+    requires turns { HasRoom frame.old }
+    requires folded { IsFolded frame.old.body.items }
     ensures ok { IfOk result (λ r. Advanced (program_of given.entry.checked.now) given.entry.choice (λ c. doing (program_of given.entry.checked.now) c (Todo.Do stmt.entry)) frame.old todo.old.items r frame.new todo.new.items) }
-    ensures fits { IfOk result (λ r. IsAccepted given.entry.checked.now → IsFineAct (taken_by_source given.entry.checked.now) (pure_act stmt.now.act) → FitsRequest (program_of given.entry.checked.now) r) }
-    ensures fine { OnOk result (IsFineAct (taken_by_source given.entry.checked.now) (pure_act stmt.now.act) → AreFineParts (taken_by_source given.entry.checked.now) todo.old.items → AreFineParts (taken_by_source given.entry.checked.now) todo.new.items) }
     ensures err { IfErr result (λ f. f ≢ ElabFault.Memory → StopsAt given.entry.choice (λ c. doing (program_of given.entry.checked.now) c (Todo.Do stmt.entry)) frame.old f) }
     ensures scopes { OnOk result (leaves todo.new.items + length frame.old.numbers ≡ leaves todo.old.items + length frame.new.numbers) }
     ensures falls { OnOk result (6 * frame.new.steps + length todo.new.items + 3 ≤ 6 * frame.old.steps + length todo.old.items) }
+    ensures typed { OnOk result (IsTypedBody given.entry.checked.now frame.new todo.new.items) }
+    ensures call { IfOk result (λ r. IfSome r (λ q. IsTypedCall given.entry.checked.now frame.new q)) }
+    ensures adds { OnOk result (AddsNoCall frame.old.body frame.new.body) }
+    ensures turns { IfOk result (λ r. HasRoomFor r frame.new) }
 {
     take_step(frame, stmt.place)?;
     begin(given, frame, todo, stmt.place, &stmt.act)
@@ -302,12 +366,18 @@ fn next_statement<'a>(
     todo: &mut Vec<Todo<'a>>,
     stmts: &'a [Stmt],
 ) -> Result<Option<Request>, ElabFault>
+    requires accepted { IsAccepted given.checked.now }
+    requires typed { IsTypedBody given.checked.now frame.old (todo.old.items ++ Todo.Rest stmts ∷ []) }
+    requires turns { HasRoom frame.old }
+    requires folded { IsFolded frame.old.body.items }
     ensures ok { IfOk result (λ r. Advanced (program_of given.entry.checked.now) given.entry.choice (λ c. doing (program_of given.entry.checked.now) c (Todo.Rest stmts.entry)) frame.old todo.old.items r frame.new todo.new.items) }
-    ensures fits { IfOk result (λ r. IsAccepted given.entry.checked.now → AreFineStmts (taken_by_source given.entry.checked.now) (pure_stmt_list stmts.now) → FitsRequest (program_of given.entry.checked.now) r) }
-    ensures fine { OnOk result (AreFineStmts (taken_by_source given.entry.checked.now) (pure_stmt_list stmts.now) → AreFineParts (taken_by_source given.entry.checked.now) todo.old.items → AreFineParts (taken_by_source given.entry.checked.now) todo.new.items) }
     ensures err { IfErr result (λ f. f ≢ ElabFault.Memory → StopsAt given.entry.choice (λ c. doing (program_of given.entry.checked.now) c (Todo.Rest stmts.entry)) frame.old f) }
     ensures scopes { OnOk result (leaves todo.new.items + length frame.old.numbers ≡ leaves todo.old.items + length frame.new.numbers) }
     ensures falls { OnOk result (6 * frame.new.steps + length todo.new.items ≤ 6 * frame.old.steps + length todo.old.items) }
+    ensures typed { OnOk result (IsTypedBody given.entry.checked.now frame.new todo.new.items) }
+    ensures call { IfOk result (λ r. IfSome r (λ q. IsTypedCall given.entry.checked.now frame.new q)) }
+    ensures adds { OnOk result (AddsNoCall frame.old.body frame.new.body) }
+    ensures turns { IfOk result (λ r. HasRoomFor r frame.new) }
 {
     let [first, rest @ ..] = stmts else {
         return Ok(None);
@@ -341,12 +411,16 @@ fn tested_round<'a>(
     rounds: Rounds<'a>,
     test: &'a Expr,
 ) -> Result<(), ElabFault>
-    requires { rounds.test ≡ Some test }
+    requires test { rounds.test ≡ Some test }
+    requires typed { IsTypedBody given.checked.now frame.old (todo.old.items ++ Todo.Loop rounds ∷ []) }
+    requires turns { HasRoom frame.old }
     ensures ok { OnOk result (Advanced (program_of given.entry.checked.now) given.entry.choice (λ c. looped (program_of given.entry.checked.now) c rounds.entry) frame.old todo.old.items None frame.new todo.new.items) }
-    ensures fine { OnOk result (IsFinePart (taken_by_source given.entry.checked.now) (Todo.Loop rounds.entry) → AreFineParts (taken_by_source given.entry.checked.now) todo.old.items → AreFineParts (taken_by_source given.entry.checked.now) todo.new.items) }
     ensures err { IfErr result (λ f. f ≢ ElabFault.Memory → StopsAt given.entry.choice (λ c. looped (program_of given.entry.checked.now) c rounds.entry) frame.old f) }
     ensures scopes { OnOk result (leaves todo.new.items + length frame.old.numbers ≡ leaves todo.old.items + length frame.new.numbers) }
     ensures falls { OnOk result (6 * frame.new.steps + length todo.new.items ≤ 6 * frame.old.steps + length todo.old.items) }
+    ensures typed { OnOk result (IsTypedBody given.entry.checked.now frame.new todo.new.items) }
+    ensures body { OnOk result (frame.new.body ≡ frame.old.body) }
+    ensures turns { OnOk result (HasRoom frame.new) }
 {
     take_step(frame, rounds.at)?;
     let again = holds(frame, test)?;
@@ -365,13 +439,19 @@ fn untested_round<'a>(
     todo: &mut Vec<Todo<'a>>,
     rounds: Rounds<'a>,
 ) -> Result<Option<Request>, ElabFault>
-    requires { rounds.test ≡ None }
+    requires test { rounds.test ≡ None }
+    requires accepted { IsAccepted given.checked.now }
+    requires typed { IsTypedBody given.checked.now frame.old (todo.old.items ++ Todo.Loop rounds ∷ []) }
+    requires turns { HasRoom frame.old }
+    requires folded { IsFolded frame.old.body.items }
     ensures ok { IfOk result (λ r. Advanced (program_of given.entry.checked.now) given.entry.choice (λ c. looped (program_of given.entry.checked.now) c rounds.entry) frame.old todo.old.items r frame.new todo.new.items) }
-    ensures fits { IfOk result (λ r. IsAccepted given.entry.checked.now → IsFinePart (taken_by_source given.entry.checked.now) (Todo.Loop rounds.entry) → FitsRequest (program_of given.entry.checked.now) r) }
-    ensures fine { OnOk result (IsFinePart (taken_by_source given.entry.checked.now) (Todo.Loop rounds.entry) → AreFineParts (taken_by_source given.entry.checked.now) todo.old.items → AreFineParts (taken_by_source given.entry.checked.now) todo.new.items) }
     ensures err { IfErr result (λ f. f ≢ ElabFault.Memory → StopsAt given.entry.choice (λ c. looped (program_of given.entry.checked.now) c rounds.entry) frame.old f) }
     ensures scopes { OnOk result (leaves todo.new.items + length frame.old.numbers ≡ leaves todo.old.items + length frame.new.numbers) }
     ensures falls { OnOk result (6 * frame.new.steps + length todo.new.items ≤ 6 * frame.old.steps + length todo.old.items) }
+    ensures typed { OnOk result (IsTypedBody given.entry.checked.now frame.new todo.new.items) }
+    ensures call { IfOk result (λ r. IfSome r (λ q. IsTypedCall given.entry.checked.now frame.new q)) }
+    ensures adds { OnOk result (AddsNoCall frame.old.body frame.new.body) }
+    ensures turns { IfOk result (λ r. HasRoomFor r frame.new) }
 {
     enter_round(given.alloc, frame, todo, rounds)?;
     begin_stmt(given, frame, todo, rounds.body)
@@ -384,12 +464,18 @@ fn next_round<'a>(
     todo: &mut Vec<Todo<'a>>,
     rounds: Rounds<'a>,
 ) -> Result<Option<Request>, ElabFault>
+    requires accepted { IsAccepted given.checked.now }
+    requires typed { IsTypedBody given.checked.now frame.old (todo.old.items ++ Todo.Loop rounds ∷ []) }
+    requires turns { HasRoom frame.old }
+    requires folded { IsFolded frame.old.body.items }
     ensures ok { IfOk result (λ r. Advanced (program_of given.entry.checked.now) given.entry.choice (λ c. looped (program_of given.entry.checked.now) c rounds.entry) frame.old todo.old.items r frame.new todo.new.items) }
-    ensures fits { IfOk result (λ r. IsAccepted given.entry.checked.now → IsFinePart (taken_by_source given.entry.checked.now) (Todo.Loop rounds.entry) → FitsRequest (program_of given.entry.checked.now) r) }
-    ensures fine { OnOk result (IsFinePart (taken_by_source given.entry.checked.now) (Todo.Loop rounds.entry) → AreFineParts (taken_by_source given.entry.checked.now) todo.old.items → AreFineParts (taken_by_source given.entry.checked.now) todo.new.items) }
     ensures err { IfErr result (λ f. f ≢ ElabFault.Memory → StopsAt given.entry.choice (λ c. looped (program_of given.entry.checked.now) c rounds.entry) frame.old f) }
     ensures scopes { OnOk result (leaves todo.new.items + length frame.old.numbers ≡ leaves todo.old.items + length frame.new.numbers) }
     ensures falls { OnOk result (6 * frame.new.steps + length todo.new.items ≤ 6 * frame.old.steps + length todo.old.items) }
+    ensures typed { OnOk result (IsTypedBody given.entry.checked.now frame.new todo.new.items) }
+    ensures call { IfOk result (λ r. IfSome r (λ q. IsTypedCall given.entry.checked.now frame.new q)) }
+    ensures adds { OnOk result (AddsNoCall frame.old.body frame.new.body) }
+    ensures turns { IfOk result (λ r. HasRoomFor r frame.new) }
 {
     match rounds.test {
         Some(test) => {
@@ -408,14 +494,20 @@ pub(crate) fn advance<'a>(
     next: Todo<'a>,
 ) -> Result<Option<Request>, ElabFault>
     requires accepted { IsAccepted given.checked.now }
-    requires fine { AreFineParts (taken_by_source given.checked.now) (todo.old.items ++ next ∷ []) }
     requires nested { leaves (todo.old.items ++ next ∷ []) < length frame.old.numbers }
+    requires typed { IsTypedBody given.checked.now frame.old (todo.old.items ++ next ∷ []) }
+    requires turns { HasRoom frame.old }
+    requires folded { IsFolded frame.old.body.items }
     ensures ok { IfOk result (λ r. Advanced (program_of given.entry.checked.now) given.entry.choice (λ c. doing (program_of given.entry.checked.now) c next.entry) frame.old todo.old.items r frame.new todo.new.items) }
-    ensures fits { IfOk result (FitsRequest (program_of given.entry.checked.now)) }
-    ensures fine { OnOk result (AreFineParts (taken_by_source given.entry.checked.now) todo.new.items) }
     ensures err { IfErr result (λ f. f ≢ ElabFault.Memory → StopsAt given.entry.choice (λ c. doing (program_of given.entry.checked.now) c next.entry) frame.old f) }
     ensures nested { OnOk result (leaves todo.new.items < length frame.new.numbers) }
     ensures falls { OnOk result (6 * frame.new.steps + length todo.new.items ≤ 6 * frame.old.steps + length todo.old.items) }
+    ensures typed { OnOk result (IsTypedBody given.entry.checked.now frame.new todo.new.items) }
+    ensures call { IfOk result (λ r. IfSome r (λ q. IsTypedCall given.entry.checked.now frame.new q)) }
+    ensures calls { (deck : List Module) → CallsFit deck frame.old.body.items → OnOk result (CallsFit deck frame.new.body.items) }
+    ensures params { OnOk result (frame.new.body.params ≡ frame.old.body.params) }
+    ensures turns { IfOk result (λ r. HasRoomFor r frame.new) }
+    ensures folded { OnOk result (IsFolded frame.new.body.items) }
 {
     match next {
         Todo::Do(stmt) => begin_stmt(given, frame, todo, stmt),

@@ -1,8 +1,10 @@
 //! Declarations of wires and numbers, and settings of numbers.
-ghost use Rattle.std.specs.Prelude.{◌≡◌, ◌≢◌, map, option_map, OnOk, IfErr};
+ghost use Rattle.std.specs.Prelude.{◌≡◌, ◌≢◌, ◌+◌, ◌≤◌, map, option_map, OnOk, IfErr};
 ghost use Rattle.std.specs.Option.{option_copied};
 ghost use Rattle.sc_syntax.specs.Alike.{pure_expr, pure_decl, pure_init};
+ghost use Rattle.sc_deck.specs.Turns.{last_turns};
 ghost use Rattle.sc_meaning.specs.declared.choice.Choice.{Choice};
+ghost use Rattle.sc_elab.specs.Beginnings.{AddsNoCall};
 ghost use Rattle.sc_elab.specs.Frames.{view, Runs, IsRefused};
 ghost use Rattle.sc_meaning.specs.Run.{size_of, make_wires, declare_wires, declare_numbers, set_number};
 
@@ -34,6 +36,8 @@ fn make_wires(
 ) -> Result<(), ElabFault>
     ensures ok { OnOk result ((choice : Choice) → Runs choice (make_wires class name.now size (view frame.old)) frame.old frame.new) }
     ensures err { IfErr result (λ f. f ≢ ElabFault.Memory → (choice : Choice) → IsRefused choice (make_wires class name.now size (view frame.old)) frame.old f) }
+    ensures adds { OnOk result (AddsNoCall frame.old.body frame.new.body) }
+    ensures turns { OnOk result (last_turns frame.new.body.items ≡ 1) }
 {
     if size < 1 {
         return Err(ElabFault::BadSize(name.place));
@@ -61,6 +65,8 @@ pub(crate) fn declare_wires(
 ) -> Result<(), ElabFault>
     ensures ok { OnOk result ((choice : Choice) → Runs choice (declare_wires class (map pure_decl decls.now) (view frame.old)) frame.old frame.new) }
     ensures err { IfErr result (λ f. f ≢ ElabFault.Memory → (choice : Choice) → IsRefused choice (declare_wires class (map pure_decl decls.now) (view frame.old)) frame.old f) }
+    ensures adds { OnOk result (AddsNoCall frame.old.body frame.new.body) }
+    ensures turns { OnOk result (last_turns frame.new.body.items ≤ last_turns frame.old.body.items + 1) }
 {
     for decl in decls {
         let size = size_of(&frame.numbers, decl.size.as_ref())?;
@@ -77,6 +83,7 @@ pub(crate) fn declare_numbers(
 ) -> Result<(), ElabFault>
     ensures ok { OnOk result ((choice : Choice) → Runs choice (declare_numbers sort (map pure_init inits.now) (view frame.old)) frame.old frame.new) }
     ensures err { IfErr result (λ f. f ≢ ElabFault.Memory → (choice : Choice) → IsRefused choice (declare_numbers sort (map pure_init inits.now) (view frame.old)) frame.old f) }
+    ensures body { OnOk result (frame.new.body ≡ frame.old.body) }
 {
     for init in inits {
         let value = start_value(&frame.numbers, sort, init.start.as_ref())?;
@@ -89,6 +96,7 @@ pub(crate) fn declare_numbers(
 pub(crate) fn set_number(frame: &mut Frame, set: &Set) -> Result<(), ElabFault>
     ensures ok { OnOk result ((choice : Choice) → Runs choice (set_number set.now.name set.now.op set.now.place (option_map pure_expr set.now.value) (view frame.old)) frame.old frame.new) }
     ensures err { IfErr result (λ f. (choice : Choice) → IsRefused choice (set_number set.now.name set.now.op set.now.place (option_map pure_expr set.now.value) (view frame.old)) frame.old f) }
+    ensures body { OnOk result (frame.new.body ≡ frame.old.body) }
 {
     let old = old_value(&frame.numbers, &set.name.text);
     let value = new_value(&frame.numbers, old, set.op, set.place, set.value.as_ref())?;

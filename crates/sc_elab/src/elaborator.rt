@@ -1,16 +1,22 @@
-//! The elaborator, which runs each call anew.
-ghost use Rattle.std.specs.Prelude.{◌≡◌, ◌≢◌, ◌↔◌, ◌<◌, ◌≤◌, IsTrue, None, Some, OnOk, IfOk, IfErr, length};
-ghost use Rattle.sc_gate.specs.Numbers.{AreThere};
-ghost use Rattle.sc_deck.specs.Bodies.{wires_of, with_item};
+//! The elaborator, which runs each instance once.
+ghost use Rattle.std.specs.Prelude.{◌≡◌, ◌≢◌, ◌<◌, ◌≤◌, None, Some, OnOk, IfOk, IfErr, All, [], ◌∷◌, length, slice_get};
+ghost use Rattle.std.specs.Option.{option_map};
+ghost use Rattle.sc_base.specs.NameTexts.{IsNameText};
+ghost use Rattle.sc_deck.specs.Bodies.{wires_of};
+ghost use Rattle.sc_deck.specs.Decks.{CallsFit, IsWhole};
+ghost use Rattle.sc_deck.specs.Keys.{params_of};
+ghost use Rattle.sc_deck.specs.Modules.{key_of, heights_of};
+ghost use Rattle.sc_deck.specs.Turns.{folded_modules};
 ghost use Rattle.sc_syntax.specs.Alike.{pure_stmt_list};
 ghost use Rattle.sc_types.specs.Accepted.{IsAccepted};
-ghost use Rattle.sc_elab.specs.Fine.{taken_by_source, AreFineStmts, FitsKey};
+ghost use Rattle.sc_elab.specs.Folding.{IsFolded, HasRoom, HasRoomFor};
 ghost use Rattle.sc_elab.specs.Frames.{view};
 ghost use Rattle.sc_meaning.specs.Meaning.{refusal, instances};
 ghost use Rattle.sc_meaning.specs.Local.{local, local_body};
-ghost use Rattle.sc_elab.specs.Machines.{IsCalled, IsRefusedCall, RunsOn, IsRefusedOn, RunsBody, IsRefusedBody};
-ghost use Rattle.sc_elab.specs.Pending.{asked};
+ghost use Rattle.sc_elab.specs.Machines.{IsCalled, IsRefusedCall, RunsOn, IsRefusedOn, RunsBody, IsRefusedBody, KeepsBodies, GrowsTo};
+ghost use Rattle.sc_elab.specs.Pending.{asked, leaves};
 ghost use Rattle.sc_elab.specs.Sources.{IsSound};
+ghost use Rattle.sc_elab.specs.Typings.{IsEntering, IsTypedBody, IsTypedCall};
 ghost use Rattle.sc_meaning.specs.Programs.{program_of};
 ghost use Rattle.sc_meaning.specs.Run.{acts};
 
@@ -18,24 +24,26 @@ use crate::advance::{Given, advance, push};
 use crate::callee::{Callee, definition};
 use crate::frame::Frame;
 use crate::function::function_body;
-use crate::gates::is_there;
 use crate::machine::Machine;
 use crate::start::start_frame;
 use crate::todo::{Request, Todo};
 use indexmap::IndexSet;
-use sc_base::{List, MOST_DEPTH, Memory, Text};
-use sc_deck::{Body, Deck, Item, Key, first_repeat};
-use sc_gate::Wire;
+use sc_base::{List, MOST_DEPTH, Text};
+use sc_deck::{Body, Deck, Key};
 use sc_meaning::{Choice, ElabFault};
 use sc_syntax::Stmt;
 use sc_types::Checked;
 use std::alloc::Global;
 
-/// The instances of a source, where its run is not refused; else its refusal. Every call is run anew, and a body is added at
-/// the first return of its key.
+/// The folded instances of a source as a whole deck, where its run is not refused; else its refusal. The body of an instance is
+/// run once, and is kept. No body of the deck is higher than 256, and each key has the name of a definition. Faults are those of
+/// the run, with their places; and `Memory`, where none is found.
 pub fn elaborate(alloc: Global, checked: &Checked, choice: Choice) -> Result<Deck, ElabFault>
     ensures accepted { OnOk result (refusal checked.now ≡ None) }
-    ensures deck { IfOk result (λ deck. deck ≡ instances checked.now choice) }
+    ensures deck { IfOk result (λ deck. deck ≡ folded_modules (instances checked.now choice)) }
+    ensures whole { IfOk result (λ deck. IsWhole deck) }
+    ensures shallow { IfOk result (λ deck. All (λ height. height ≤ 256) (heights_of deck)) }
+    ensures names { IfOk result (λ deck. All (λ m. IsNameText m.key.name) deck) }
     ensures refused { IfErr result (λ f. f ≢ ElabFault.Memory → refusal checked.now ≡ Some f) }
 {
     keeps(checked);
@@ -74,11 +82,19 @@ fn exec(
     depth: usize,
     stmts: &[Stmt],
 ) -> Result<(), ElabFault>
-    requires room { length machine.old.entered.keys ≤ 65536 }
-    requires scoped { 0 < length frame.old.numbers }
     requires accepted { IsAccepted given.checked.now }
-    requires fine { AreFineStmts (taken_by_source given.checked.now) (pure_stmt_list stmts.now) }
-    ensures room { OnOk result (length machine.new.entered.keys ≤ 65536) }
+    requires depth { depth ≤ 256 }
+    requires kept { KeepsBodies given.checked.now machine.old }
+    requires scoped { 0 < length frame.old.numbers }
+    requires typed { IsTypedBody given.checked.now frame.old (Todo.Rest stmts ∷ []) }
+    requires turns { HasRoom frame.old }
+    requires folded { IsFolded frame.old.body.items }
+    requires calls { CallsFit machine.old.deck frame.old.body.items }
+    ensures kept { OnOk result (KeepsBodies given.entry.checked.now machine.new) }
+    ensures grows { OnOk result (GrowsTo machine.old.deck machine.new.deck) }
+    ensures folded { OnOk result (IsFolded frame.new.body.items) }
+    ensures calls { OnOk result (CallsFit machine.new.deck frame.new.body.items) }
+    ensures params { OnOk result (frame.new.body.params ≡ frame.old.body.params) }
     ensures ok { OnOk result (RunsOn given.entry.choice (acts (program_of given.entry.checked.now) (local (program_of given.entry.checked.now) depth) (pure_stmt_list stmts.now) (view frame.old)) machine.old frame.old machine.new frame.new) }
     ensures err { IfErr result (λ f. f ≢ ElabFault.Memory → IsRefusedOn given.entry.choice (acts (program_of given.entry.checked.now) (local (program_of given.entry.checked.now) depth) (pure_stmt_list stmts.now) (view frame.old)) machine.old frame.old f) }
 {
@@ -102,35 +118,28 @@ fn call_from(
     depth: usize,
     request: Request,
 ) -> Result<(), ElabFault>
-    requires room { length machine.old.entered.keys ≤ 65536 }
     requires accepted { IsAccepted given.checked.now }
-    requires fits { FitsKey (program_of given.checked.now) request.key }
-    ensures room { OnOk result (length machine.new.entered.keys ≤ 65536) }
+    requires depth { depth ≤ 256 }
+    requires kept { KeepsBodies given.checked.now machine.old }
+    requires call { IsTypedCall given.checked.now frame.old request }
+    requires turns { HasRoomFor (Some request) frame.old }
+    requires folded { IsFolded frame.old.body.items }
+    requires calls { CallsFit machine.old.deck frame.old.body.items }
+    ensures kept { OnOk result (KeepsBodies given.entry.checked.now machine.new) }
+    ensures grows { OnOk result (GrowsTo machine.old.deck machine.new.deck) }
+    ensures turns { OnOk result (HasRoom frame.new) }
+    ensures folded { OnOk result (IsFolded frame.new.body.items) }
+    ensures calls { OnOk result (CallsFit machine.new.deck frame.new.body.items) }
+    ensures params { OnOk result (frame.new.body.params ≡ frame.old.body.params) }
+    ensures view { OnOk result (view frame.new ≡ view frame.old) }
     ensures others { OnOk result (frame.new ≡ record frame.old { body = frame.new.body }) }
     ensures ok { OnOk result (RunsOn given.entry.choice (asked (local (program_of given.entry.checked.now) depth) request (view frame.old)) machine.old frame.old machine.new frame.new) }
     ensures err { IfErr result (λ f. f ≢ ElabFault.Memory → IsRefusedOn given.entry.choice (asked (local (program_of given.entry.checked.now) depth) request (view frame.old)) machine.old frame.old f) }
 {
     let Request { key, wires } = request;
     let number = call(given, machine, depth, key)?;
-    push_call(&mut frame.body, number, &wires)?;
+    frame.body.fold_call(number, &wires)?;
     Ok(())
-}
-
-/// Appends a call. That its wires are there follows from the scopes of the frame; while that is not proved it is tested, and
-/// `Memory` answered where it does not hold.
-fn push_call(body: &mut Body, number: u32, wires: &[Wire]) -> Result<(), Memory>
-    ensures { OnOk result (body.new ≡ with_item body.old (Item.Call number wires.now)) }
-{
-    if first_repeat(wires).is_some() || !are_there(body, wires) {
-        return Err(Memory);
-    }
-    body.push_call(number, wires)
-}
-
-fn are_there(body: &Body, wires: &[Wire]) -> bool
-    ensures { IsTrue result ↔ AreThere (wires_of body.now) wires.now }
-{
-    wires.iter().all(|wire| is_there(body, *wire))
 }
 
 /// The body of a key: that of its module, whose statements are run, or that of its classical function.
@@ -141,18 +150,23 @@ fn body_of(
     depth: usize,
     key: &Key,
 ) -> Result<Body, ElabFault>
-    requires room { length machine.old.entered.keys ≤ 65536 }
     requires accepted { IsAccepted given.checked.now }
-    requires fits { FitsKey (program_of given.checked.now) key.now }
-    ensures room { OnOk result (length machine.new.entered.keys ≤ 65536) }
+    requires depth { depth ≤ 256 }
+    requires kept { KeepsBodies given.checked.now machine.old }
+    requires entering { IsEntering given.checked.now key.now }
+    ensures kept { OnOk result (KeepsBodies given.entry.checked.now machine.new) }
+    ensures grows { OnOk result (GrowsTo machine.old.deck machine.new.deck) }
+    ensures folded { IfOk result (λ body. IsFolded body.items) }
+    ensures calls { IfOk result (λ body. CallsFit machine.new.deck body.items) }
+    ensures params { IfOk result (λ body. body.params ≡ params_of key.now) }
     ensures ok { IfOk result (λ body. RunsBody given.entry.choice (local_body (program_of given.entry.checked.now) (local (program_of given.entry.checked.now) depth) key.now) machine.old body.items machine.new) }
     ensures err { IfErr result (λ f. f ≢ ElabFault.Memory → IsRefusedBody given.entry.choice (local_body (program_of given.entry.checked.now) (local (program_of given.entry.checked.now) depth) key.now) machine.old f) }
 {
     match definition(given.checked, &key.name) {
-        None => Ok(Body::new(given.alloc, 0, 0)),
+        None => unreachable!(),
         Some(callee) => match callee {
             Callee::Module(called) => {
-                let mut frame = start_frame(given.alloc, called.params.as_slice(), key)?;
+                let mut frame = start_frame(given.alloc, given.checked, called, key)?;
                 exec(given, machine, &mut frame, depth, called.body.as_slice())?;
                 Ok(frame.body)
             }
@@ -163,21 +177,29 @@ fn body_of(
     }
 }
 
-/// A call of a key: its body is run, and added to the deck where the key is new there.
+/// A call of a key, where `depth` bodies more may be opened. A key that has returned is not run again: its body stands for this
+/// entering too, where that depth allows. Else its body is run, and added to the deck.
 #[cycle(calls)]
 fn call(given: Given<'_>, machine: &mut Machine, depth: usize, key: Key) -> Result<u32, ElabFault>
-    requires room { length machine.old.entered.keys ≤ 65536 }
     requires accepted { IsAccepted given.checked.now }
-    requires fits { FitsKey (program_of given.checked.now) key }
-    ensures room { OnOk result (length machine.new.entered.keys ≤ 65536) }
+    requires depth { depth ≤ 256 }
+    requires kept { KeepsBodies given.checked.now machine.old }
+    requires entering { IsEntering given.checked.now key }
+    ensures kept { OnOk result (KeepsBodies given.entry.checked.now machine.new) }
+    ensures grows { OnOk result (GrowsTo machine.old.deck machine.new.deck) }
+    ensures key { IfOk result (λ number. option_map key_of (slice_get machine.new.deck number) ≡ Some key) }
     ensures ok { IfOk result (λ number. IsCalled given.entry.choice (local (program_of given.entry.checked.now) depth key) machine.old number machine.new) }
     ensures err { IfErr result (λ f. f ≢ ElabFault.Memory → IsRefusedCall given.entry.choice (local (program_of given.entry.checked.now) depth key) machine.old f) }
 {
+    if let Some(number) = machine.kept(&key, depth)? {
+        return Ok(number);
+    }
     if depth == 0 {
         return Err(ElabFault::TooDeep);
     }
     machine.enter(given.alloc, &key)?;
     let body = body_of(given, machine, depth - 1, &key)?;
-    let number = machine.add(key, body)?;
+    let number = machine.deck.len();
+    machine.deck.push_body(key, body)?;
     Ok(number)
 }

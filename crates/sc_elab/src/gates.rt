@@ -1,9 +1,11 @@
 //! Gates of a body.
-ghost use Rattle.std.specs.Prelude.{◌≡◌, ◌≢◌, ◌↔◌, ◌++◌, map, option_map, IsTrue, Ok, Err, OnOk, IfOk, IfErr};
+ghost use Rattle.std.specs.Prelude.{◌≡◌, ◌≢◌, ◌+◌, ◌<◌, ◌^◌, fold, length, map, option_map, Ok, Err, OnOk, IfOk, IfErr};
+ghost use Rattle.std.specs.List.{AllByRecursion};
 ghost use Rattle.std.specs.Option.{option_copied};
-ghost use Rattle.sc_gate.specs.Numbers.{IsThere};
 ghost use Rattle.sc_syntax.specs.Alike.{pure_expr, pure_operand};
-ghost use Rattle.sc_deck.specs.Bodies.{wires_of, with_item};
+ghost use Rattle.sc_deck.specs.Bodies.{wires_of};
+ghost use Rattle.sc_deck.specs.Items.{GateFits};
+ghost use Rattle.sc_deck.specs.Turns.{with_folded, last_turns};
 ghost use Rattle.sc_meaning.specs.Arguments.{angle, start, start_of, kind_of, gate_on, called_gate};
 ghost use Rattle.sc_elab.specs.Evaluated.{passed_by};
 ghost use Rattle.sc_elab.specs.Frames.{view};
@@ -15,7 +17,7 @@ use crate::frame::Frame;
 use crate::operands::operand;
 use sc_base::{Fixed, GateName, Memory, Place};
 use sc_deck::{Arg, Body, Item};
-use sc_gate::{Gate, Kind, Wire, well_formed};
+use sc_gate::{Gate, Kind, Wire};
 use sc_meaning::{Choice, ElabFault, gate_wants};
 use sc_syntax::{Expr, Measure};
 use sc_tables::{fredkin, toffoli};
@@ -125,42 +127,24 @@ pub(crate) fn measured(alloc: Global, frame: &Frame, measure: &Measure) -> Resul
     Ok(gate_on(kind, &wires))
 }
 
-pub(crate) fn is_there(body: &Body, wire: Wire) -> bool
-    ensures { IsTrue result ↔ IsThere (wires_of body.now) wire }
-{
-    wire.number < body.count(wire.class)
-}
-
-/// Appends a gate. That it is well formed and its wires are there follows from the checks of the source; while that is
-/// not proved it is tested, and `Memory` answered where it does not hold.
-fn push_tested(body: &mut Body, gate: Gate) -> Result<(), Memory>
-    ensures { OnOk result (body.new ≡ with_item body.old (Item.Gate gate)) }
-{
-    let there = is_there(body, gate.a)
-        && gate.b.is_none_or(|wire| is_there(body, wire))
-        && gate.c.is_none_or(|wire| is_there(body, wire));
-    if !there || !well_formed(&gate) {
-        return Err(Memory);
-    }
-    body.push_gate(gate)
-}
-
+/// Appends gates, each of which may join the last item.
 fn push_all(body: &mut Body, gates: &[Gate]) -> Result<(), Memory>
-    ensures { OnOk result (body.new ≡ record body.old { items = body.old.items ++ map Item.Gate gates.now }) }
+    requires fits { AllByRecursion (GateFits (wires_of body.old)) gates.now }
+    requires turns { last_turns body.old.items + length gates.now < 2 ^ 64 }
+    ensures { OnOk result (body.new ≡ record body.old { items = fold with_folded body.old.items (map Item.Gate gates.now) }) }
 {
     for gate in gates {
-        push_tested(body, *gate)?;
+        body.fold_gate(*gate)?;
     }
     Ok(())
 }
 
-/// Appends the gates that stand for a gate.
+/// Appends the gates that stand for a gate, each of which may join the last item.
 pub(crate) fn push_chosen(body: &mut Body, choice: Choice, gate: Gate) -> Result<(), Memory>
-    ensures { OnOk result (body.new ≡ record body.old { items = body.old.items ++ map Item.Gate (chosen choice gate) }) }
+    requires fits { GateFits (wires_of body.old) gate }
+    requires turns { last_turns body.old.items + 64 < 2 ^ 64 }
+    ensures { OnOk result (body.new ≡ record body.old { items = fold with_folded body.old.items (map Item.Gate (chosen choice gate)) }) }
 {
-    if !well_formed(&gate) {
-        return Err(Memory);
-    }
     match (choice, gate.kind, gate.b, gate.c) {
         (Choice::Replace, Kind::Toffoli, Some(b), Some(c)) => {
             push_all(body, &toffoli(gate.a, b, c))
@@ -168,6 +152,6 @@ pub(crate) fn push_chosen(body: &mut Body, choice: Choice, gate: Gate) -> Result
         (Choice::Replace, Kind::Fredkin, Some(b), Some(c)) => {
             push_all(body, &fredkin(gate.a, b, c))
         }
-        _ => push_tested(body, gate),
+        _ => body.fold_gate(gate),
     }
 }

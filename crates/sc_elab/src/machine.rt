@@ -1,15 +1,14 @@
 //! What is kept from one body to the next.
-ghost use Rattle.std.specs.Prelude.{◌≡◌, ◌≢◌, ◌↔◌, ◌≤◌, [], ◌∷◌, ◌++◌, IsTrue, All, fold, length, OnOk, IfOk, IfErr};
-ghost use Rattle.sc_gate.specs.Numbers.{no_wires};
-ghost use Rattle.sc_deck.specs.Decks.{CallsFit, IsNewKey, ItemCallFits};
-ghost use Rattle.sc_deck.specs.Keys.{HasLength, with_arg};
-ghost use Rattle.sc_meaning.specs.Instances.{with_key, with_module, number_in_deck};
+ghost use Rattle.std.specs.Prelude.{◌≡◌, ◌≢◌, ◌<◌, ◌≤◌, length, slice_index, OnOk, IfOk, IfErr, IfSome, IfNone};
+ghost use Rattle.sc_deck.specs.Decks.{IsNewKey};
+ghost use Rattle.sc_deck.specs.Modules.{heights_of};
+ghost use Rattle.sc_meaning.specs.Instances.{with_key, number_in_deck};
+ghost use Rattle.sc_meaning.specs.Kept.{In};
 ghost use Rattle.sc_elab.specs.Machines.{IsEntered};
 
-use crate::start::param_counts;
 use indexmap::IndexSet;
-use sc_base::{Class, MOST_INSTANCES, Memory};
-use sc_deck::{Arg, Body, Deck, Item, Key};
+use sc_base::MOST_INSTANCES;
+use sc_deck::{Deck, Key};
 use sc_meaning::ElabFault;
 use std::alloc::Global;
 
@@ -42,82 +41,29 @@ impl Machine {
         }
     }
 
-    /// The number of a key, whose body is added where the key has not returned before.
-    #[tactic(auto, using(crate::proofs::Adding::added_found, crate::proofs::Adding::number_found, crate::proofs::Adding::added_new, crate::proofs::Adding::number_new, crate::proofs::Adding::new_nowhere))]
-    pub(crate) fn add(&mut self, key: Key, body: Body) -> Result<u32, Memory>
-        ensures deck { OnOk result (self.new.deck ≡ with_module self.old.deck key body.items) }
-        ensures number { IfOk result (λ n. n ≡ number_in_deck self.new.deck key) }
-        ensures keys { OnOk result (self.new.entered.keys ≡ self.old.entered.keys) }
+    /// The number of the body of a key that has returned, and none where it has not. Where its height is more than the depth
+    /// that is left, another entering of it goes too deep.
+    #[tactic(auto, using(crate::proofs::Adding::number_found, crate::proofs::Adding::found_below))]
+    pub(crate) fn kept(&self, key: &Key, depth: usize) -> Result<Option<u32>, ElabFault>
+        ensures number { IfOk result (λ o. IfSome o (λ n. n ≡ number_in_deck self.now.deck key.now)) }
+        ensures there { IfOk result (λ o. IfSome o (λ n. In self.now.deck key.now)) }
+        ensures low { IfOk result (λ o. IfSome o (λ n. slice_index (heights_of self.now.deck) n ≤ depth)) }
+        ensures new { IfOk result (λ o. IfNone o (IsNewKey self.now.deck key.now)) }
+        ensures err { IfErr result (λ f. f ≡ ElabFault.TooDeep) }
+        ensures deep { IfErr result (λ f. In self.now.deck key.now) }
+        ensures high { IfErr result (λ f. depth < slice_index (heights_of self.now.deck) (number_in_deck self.now.deck key.now)) }
     {
+        let Some(number) = self.deck.find(key) else {
+            return Ok(None);
+        };
         let count = self.deck.len();
-        if let Some(number) = self.deck.find(&key) {
-            return Ok(number);
+        prove!(number < count);
+        let Some(height) = self.deck.height(number) else {
+            unreachable!()
+        };
+        if height as usize > depth {
+            return Err(ElabFault::TooDeep);
         }
-        push_tested(&mut self.deck, count, key, body)?;
-        Ok(count)
+        Ok(Some(number))
     }
-}
-
-/// Whether an array has at least one wire.
-fn has_length(arg: Arg) -> bool
-    ensures { IsTrue result ↔ HasLength arg }
-{
-    match arg {
-        Arg::Many(_, len) => len > 0,
-        Arg::Int(_) | Arg::Double(_) | Arg::One(_) => true,
-    }
-}
-
-fn have_lengths(args: &[Arg]) -> bool
-    ensures { IsTrue result ↔ All HasLength args.now }
-{
-    args.iter().all(|arg| has_length(*arg))
-}
-
-/// Whether a body has the parameter wires of its key.
-fn has_params(body: &Body, args: &[Arg]) -> bool
-    ensures { IsTrue result → (body.now.params ≡ fold with_arg no_wires args.now) }
-{
-    match param_counts(args) {
-        Ok(counts) => body.params(Class::Q) == counts.qubits
-            && body.params(Class::C) == counts.cbits,
-        Err(_) => false,
-    }
-}
-
-/// Whether the call of an item fits.
-fn call_fits(deck: &Deck, item: &Item) -> bool
-    ensures { IsTrue result ↔ ItemCallFits deck.now item.now }
-{
-    match item {
-        Item::Call(callee, wires) | Item::Calls(callee, wires, _) => {
-            deck.fits_call(*callee, wires.as_slice())
-        }
-        Item::Fresh(..) | Item::Gate(_) | Item::Gates(..) => true,
-    }
-}
-
-fn calls_fit(deck: &Deck, items: &[Item]) -> bool
-    ensures { IsTrue result ↔ CallsFit deck.now items.now }
-{
-    items.iter().all(|item| call_fits(deck, item))
-}
-
-/// Appends a body under its key. That its calls fit and its parameters are those of its key follows from the checks of the
-/// source; while that is not proved it is tested, and `Memory` answered where it does not hold.
-fn push_tested(deck: &mut Deck, count: u32, key: Key, body: Body) -> Result<(), Memory>
-    requires count { count ≡ length deck.old }
-    requires new { IsNewKey deck.old key }
-    ensures { OnOk result (deck.new ≡ deck.old ++ record { key = key; items = body.items } ∷ []) }
-{
-    let args = key.args.as_slice();
-    let fits = count < 65_536
-        && have_lengths(args)
-        && has_params(&body, args)
-        && calls_fit(deck, body.items());
-    if !fits {
-        return Err(Memory);
-    }
-    deck.push_body(key, body)?;
-    Ok(())
 }

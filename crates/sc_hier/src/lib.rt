@@ -9,4 +9,6 @@ mod item;
 mod signature;
 mod write;
 
+pub use gathered::Gathered;
+pub use signature::push_heading;
 pub use write::write_hier;

@@ -1,4 +1,4 @@
-//! `flat` over texts in memory.
+//! `hier` and `flat` over texts in memory.
 use sc_base::{MemShelf, MemSink, Sink};
 use sc_top::{Status, run};
 use std::alloc::Global;
@@ -17,10 +17,11 @@ pub(crate) fn words(alloc: Global, texts: &[&str]) -> Result<Vec<RcStr>, Fail> {
     Ok(words)
 }
 
-/// Runs `flat a` over a shelf that holds the source under `a`, and tests what stands in the sinks.
-fn shows(
+/// Runs the mode over a shelf that holds the source under `a`, and tests what stands in the sinks.
+fn answers(
     rt: &impl Abort,
     alloc: Global,
+    mode: &str,
     source: &[u8],
     out_text: &[u8],
     err_text: &[u8],
@@ -32,10 +33,11 @@ fn shows(
     let mut err = MemSink::new(alloc, ROOM, ROOM)?;
     let status = run(
         alloc,
-        &words(alloc, &["flat", "a"])?,
+        &words(alloc, &[mode, "a"])?,
         &mut shelf,
         &mut out,
         &mut err,
+        Vec::new(alloc),
     );
     assert_eq!(rt; status.code(), code);
     assert_eq!(rt; out.written(), out_text);
@@ -45,9 +47,25 @@ fn shows(
     Ok(())
 }
 
+/// Runs `flat a` so.
+fn shows(
+    rt: &impl Abort,
+    alloc: Global,
+    source: &[u8],
+    out_text: &[u8],
+    err_text: &[u8],
+    code: u8,
+) -> Result<(), Fail> {
+    answers(rt, alloc, "flat", source, out_text, err_text, code)
+}
+
 const BELL: &str = "int main() { qbit q[2]; H(q[0]); CNOT(q[0],q[1]); return 0; }\n";
 
-/// Sources of the first form, and their flat texts.
+/// Two calls of a module with a fresh qubit.
+const TWICE: &str =
+    "module g(qbit a) { qbit t; H(t); H(t); H(t); CNOT(t, a); } int main() { qbit q; g(q); g(q); }\n";
+
+/// Sources, and their flat texts.
 const WRITTEN: [(&str, &str); 4] = [
     (
         BELL,
@@ -55,42 +73,76 @@ const WRITTEN: [(&str, &str); 4] = [
     ),
     ("int main() { }\n", "flat 1\nqbits 0\ncbits 0\ngates 0\n"),
     (
-        "int main(){qbit a[1];qbit b[2];CNOT(b[1],a[0]);Tdag(b[0]);}",
-        "flat 1\nqbits 3\ncbits 0\ngates 2\nCNOT q2,q0\nTdag q1\n",
+        TWICE,
+        "flat 1\nqbits 3\ncbits 0\ngates 8\nH q1\nH q1\nH q1\nCNOT q1,q0\nH q2\nH q2\nH q2\nCNOT q2,q0\n",
     ),
     (
-        "#define N 2 // the length\nint main() { qbit a[N]; /* flip */ X(a[1]); }\n",
-        "flat 1\nqbits 2\ncbits 0\ngates 1\nX q1\n",
+        "#define N 2 // the length\nint main() { qbit a[N]; Rz(a[1], M_PI / N); }\n",
+        "flat 1\nqbits 2\ncbits 0\ngates 1\nRz q1,1.570796326795\n",
     ),
 ];
 
 #[test]
-fn sources_of_the_first_form_are_written(rt: HostRuntime) -> Result<(), Fail> {
+fn sources_are_written(rt: HostRuntime) -> Result<(), Fail> {
     for (source, text) in WRITTEN {
         shows(&rt, rt.alloc(), source.as_bytes(), text.as_bytes(), b"", 0)?;
     }
     Ok(())
 }
 
-/// Sources that are not of the first form.
-const UNBUILT: [&str; 5] = [
-    "int main() { qbit q[1]; CNOT(q[0],q[0]); }\n",
-    "int main() { qbit q; }\n",
-    "int main() { qbit q[0]; }\n",
-    "int main() { qbit q[2]; H(q[2]); }\n",
-    "int main() { qbit q[65537]; }\n",
+#[test]
+fn repeated_items_are_folded(rt: HostRuntime) -> Result<(), Fail> {
+    answers(
+        &rt,
+        rt.alloc(),
+        "hier",
+        TWICE.as_bytes(),
+        b"hier 2\nmodule 0 g(q)\nqbit 1\nrepeat 3 H q1\nCNOT q1,q0\nend\nmodule 1 main()\nqbit 1\nrepeat 2 call 0 q0\nend\n",
+        b"",
+        0,
+    )
+}
+
+/// Sources whose run is refused, with the fault's line.
+const STOPPED: [(&str, &str, u8); 6] = [
+    (
+        "int main() { qbit q[1]; CNOT(q[0],q[0]); }\n",
+        "scaff: 1:35: Repeated\n",
+        1,
+    ),
+    ("int main() { qbit q[0]; }\n", "scaff: 1:19: BadSize\n", 1),
+    (
+        "int main() { qbit q[2]; H(q[2]); }\n",
+        "scaff: 1:27: OutOfRange\n",
+        1,
+    ),
+    (
+        "int main() { qbit q[65537]; }\n",
+        "scaff: 1:19: TooWide\n",
+        5,
+    ),
+    (
+        "module f(qbit q, int n) { f(q, n); } int main() { qbit q; f(q, 1); }\n",
+        "scaff: TooDeep\n",
+        5,
+    ),
+    (
+        "module m(qbit q, int n) { if (n == 0) { X(q); } else { m(q, n-1); m(q, n-1); } } int main() { qbit q; m(q, 100); }\n",
+        "scaff: TooManyGates\n",
+        5,
+    ),
 ];
 
 #[test]
-fn other_sources_are_unbuilt(rt: HostRuntime) -> Result<(), Fail> {
-    for source in UNBUILT {
+fn the_refusal_of_a_run_is_told(rt: HostRuntime) -> Result<(), Fail> {
+    for (source, line, code) in STOPPED {
         shows(
             &rt,
             rt.alloc(),
             source.as_bytes(),
             b"",
-            b"scaff: Unbuilt\n",
-            1,
+            line.as_bytes(),
+            code,
         )?;
     }
     Ok(())
@@ -131,9 +183,9 @@ fn the_first_fault_of_a_source_is_told(rt: HostRuntime) -> Result<(), Fail> {
 #[test]
 fn parentheses_nest_to_128(rt: HostRuntime) -> Result<(), Fail> {
     let alloc = rt.alloc();
-    for (count, line, code) in [
-        (126u32, "scaff: Unbuilt\n", 1),
-        (127, "scaff: 1:149: TooNested\n", 5),
+    for (count, out, line, code) in [
+        (126u32, "flat 1\nqbits 0\ncbits 0\ngates 0\n", "", 0),
+        (127, "", "scaff: 1:149: TooNested\n", 5),
     ] {
         let mut text = String::from_str(alloc, "int main() { int x = ")?;
         for _ in 0..count {
@@ -144,7 +196,14 @@ fn parentheses_nest_to_128(rt: HostRuntime) -> Result<(), Fail> {
             text.push_str(")")?;
         }
         text.push_str("; }")?;
-        shows(&rt, alloc, text.as_bytes(), b"", line.as_bytes(), code)?;
+        shows(
+            &rt,
+            alloc,
+            text.as_bytes(),
+            out.as_bytes(),
+            line.as_bytes(),
+            code,
+        )?;
     }
     Ok(())
 }
@@ -186,6 +245,7 @@ fn a_failing_sink_keeps_a_prefix(rt: HostRuntime) -> Result<(), Fail> {
         &mut shelf,
         &mut out,
         &mut err,
+        Vec::new(alloc),
     );
     assert_eq!(rt; status.code(), 7);
     assert_eq!(rt; out.written(), b"fl".as_slice());
@@ -208,6 +268,7 @@ fn a_failing_shelf_writes_nothing(rt: HostRuntime) -> Result<(), Fail> {
         &mut shelf,
         &mut out,
         &mut err,
+        Vec::new(alloc),
     );
     assert_eq!(rt; status.code(), 3);
     assert_eq!(rt; out.written(), b"".as_slice());
@@ -219,7 +280,7 @@ fn a_failing_shelf_writes_nothing(rt: HostRuntime) -> Result<(), Fail> {
 const USAGE: [[&str; 2]; 5] = [
     ["plot", "a"],
     ["flat", "--keep"],
-    ["hier", "a"],
+    ["hier", "--keep"],
     ["expand", "--keep"],
     ["check", "a"],
 ];
@@ -237,6 +298,7 @@ fn other_words_are_usage(rt: HostRuntime) -> Result<(), Fail> {
             &mut shelf,
             &mut out,
             &mut err,
+            Vec::new(alloc),
         );
         assert_eq!(rt; status, Status::Usage);
         assert_eq!(rt; err.written(), b"scaff: Usage\n".as_slice());

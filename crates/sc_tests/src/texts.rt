@@ -35,6 +35,7 @@ fn answers(
         &mut shelf,
         &mut out,
         &mut err,
+        Vec::new(alloc),
     );
     let done = wanted.err.is_empty();
     assert_eq!(rt; out.written(), wanted.out.as_bytes());
@@ -253,6 +254,7 @@ fn a_failing_sink_keeps_a_prefix(rt: HostRuntime) -> Result<(), Fail> {
             &mut shelf,
             &mut out,
             &mut err,
+            Vec::new(alloc),
         );
         assert_eq!(rt; status.code(), 7);
         assert_eq!(rt; out.written().len(), 2);

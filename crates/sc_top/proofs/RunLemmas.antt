@@ -1,15 +1,16 @@
 -- What a request that was carried out says of the run. `r` is how it ended.
-use Rattle.std.proofs.Common.{◌≡◌, ℕ, Bool, false, true, IsTrue, List, Option, None, Result, Ok, Err, refl, sym, ◌∙◌, ap, subst, inl, inr, ◌⊎◌}
+use Rattle.std.proofs.Common.{◌≡◌, ℕ, Bool, false, true, IsTrue, List, Option, Some, None, Result, Ok, Err, refl, sym, ◌∙◌, ap, subst, inl, inr, ◌⊎◌}
 use Rattle.sc_base.specs.Causes.{Stood}
 use Rattle.sc_base.specs.Output.{Wrote}
 use Rattle.sc_base.proofs.CauseLemmas.{rose-stood}
-use Rattle.sc_top.specs.Answers.{request, Says, OfRequest, Answers}
+use Rattle.sc_top.specs.Answers.{request, Says, IsLate, Leaves, OfRequest, Answers, MayBeLate, MayLeave, CarriedOut}
 use Rattle.sc_top.specs.Carried.{Short, Carried}
 use Rattle.sc_top.specs.Endings.{Output, status_at, is_done}
 use Rattle.sc_top.specs.Fault.{weight_of, weight_status, status_of}
 use Rattle.sc_top.specs.Runs.{status_from, Closed, EndsAs}
 use Rattle.sc_top.specs.Stages.{HasOne}
 use Rattle.sc_top.specs.Watching.{Watcher}
+use Rattle.sc_top.proofs.StageLemmas.{why_map}
 use Rattle.sc_top.specs.declared.fault.Fault.{Fault}
 use Rattle.sc_top.specs.declared.fault.Fault.TheVariants as fault
 use Rattle.sc_top.specs.declared.fault.Refusal.{Refusal}
@@ -45,6 +46,37 @@ not_both {b} one other = let impossible : false ≡ true = sym one ∙ other in 
 pub run_usage : (r : Result Ending Fault) → (r ≡ Err fault.Usage) ⊎ (r ≡ Err fault.Memory) → (status_from r ≡ status.Usage) ⊎ (status_from r ≡ status.Memory)
 run_usage r (inl is) = inl (ap status_from is)
 run_usage r (inr is) = inr (ap status_from is)
+
+-- ---- the request of words
+
+-- a request that is carried out does not come without a request
+carried_any : {F O : Type 0} {held : F → List ℕ → Option (List ℕ)} {tells_held : F → Bool} {shelf_faults : F → ℕ} {tells : O → Bool} {bytes : O → List ℕ} {is_ended : O → Bool} {faults : O → ℕ} (N : Type 0)
+    {A : (List ℕ → Option (List ℕ)) → Result Output Refusal → Type 0} {Late : Type 0} {Leaves : (List ℕ → Option (List ℕ)) → List ℕ → Type 0} {shelf_old shelf_new : F} {old new : O} (r : Result Ending Fault) →
+    Carried held tells_held shelf_faults tells bytes is_ended faults ⊥ A Late Leaves shelf_old shelf_new old new r →
+    Carried held tells_held shelf_faults tells bytes is_ended faults N A Late Leaves shelf_old shelf_new old new r
+carried_any N (Ok e) c = record { kept = c.kept; later = c.later; ended = c.ended; still_open = tt; done = c.done; fault = tt }
+carried_any N (Err f) c = record {
+  kept = c.kept;
+  later = c.later;
+  ended = tt;
+  still_open = c.still_open;
+  done = tt;
+  fault = why_map f (λ x. absurd x.1) (λ x. x) (λ x. x) (λ x. x) (λ r x. x) c.fault;
+}
+
+carried_found : {F O : Type 0} {held : F → List ℕ → Option (List ℕ)} {tells_held : F → Bool} {shelf_faults : F → ℕ} {tells : O → Bool} {bytes : O → List ℕ} {is_ended : O → Bool} {faults : O → ℕ} {shelf_old shelf_new : F} {old new : O} (all : List Watcher) (job : Request) (r : Result Ending Fault) (found : Option Request) → Some job ≡ found →
+    CarriedOut held tells_held shelf_faults tells bytes is_ended faults all job shelf_old shelf_new old new r →
+    Carried held tells_held shelf_faults tells bytes is_ended faults (found ≡ None) (λ texts answer. OfRequest (λ j. Says texts all j answer) found) (OfRequest (IsLate all) found)
+    (λ texts text. OfRequest (λ j. Leaves texts j text) found) shelf_old shelf_new old new r
+carried_found {held = held} {tells_held = tells_held} {shelf_faults = shelf_faults} {tells = tells} {bytes = bytes} {is_ended = is_ended} {faults = faults} {shelf_old = shelf_old} {shelf_new = shelf_new} {old = old} {new = new} all job r found is c =
+    subst (λ (f : Option Request). Carried held tells_held shelf_faults tells bytes is_ended faults (f ≡ None) (λ texts answer. OfRequest (λ j. Says texts all j answer) f) (OfRequest (IsLate all) f)
+    (λ texts text. OfRequest (λ j. Leaves texts j text) f) shelf_old shelf_new old new r) is (carried_any (Some job ≡ None) r c)
+
+-- the words are carried out where their request is
+pub carried_words : {F O : Type 0} {held : F → List ℕ → Option (List ℕ)} {tells_held : F → Bool} {shelf_faults : F → ℕ} {tells : O → Bool} {bytes : O → List ℕ} {is_ended : O → Bool} {faults : O → ℕ} {shelf_old shelf_new : F} {old new : O} (all : List Watcher) (job : Request) (r : Result Ending Fault) (words : List (List ℕ)) → request words ≡ Some job →
+    CarriedOut held tells_held shelf_faults tells bytes is_ended faults all job shelf_old shelf_new old new r →
+    Carried held tells_held shelf_faults tells bytes is_ended faults (request words ≡ None) (λ texts. Answers texts all words) (MayBeLate all words) (λ texts. MayLeave texts words) shelf_old shelf_new old new r
+carried_words all job r words is c = carried_found all job r (request words) (sym is) c
 
 -- ---- the clauses
 

@@ -45,7 +45,7 @@ asked_watchers rule state asked (p ∷ ps) =
     let more = asked_watchers rule state asked ps in
     let here : Watcher = record { rule = rule p; state = state p } in
     elim (asks asked (rule p)) as (λ b. cond b (here ∷ asked_of asked (watchers rule state ps)) (asked_of asked (watchers rule state ps))
-      ≡ watchers rule state (cond b (p ∷ filter (λ q. asks asked (rule q)) ps) (filter (λ q. asks asked (rule q)) ps))) [
+    ≡ watchers rule state (cond b (p ∷ filter (λ q. asks asked (rule q)) ps) (filter (λ q. asks asked (rule q)) ps))) [
       | true ↦ ap (λ (ws : List Watcher). here ∷ ws) more
       | false ↦ more
     ]

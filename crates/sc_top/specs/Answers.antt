@@ -38,7 +38,6 @@ use Rattle.sc_top.specs.declared.request.Request.{Request}
 use Rattle.sc_top.specs.declared.request.Request.TheVariants.{Hier, Flat, Expand, Check, Drill, ToOpen, FromOpen, Cancel}
 use Rattle.sc_top.specs.declared.status.Ending.{Ending}
 use Rattle.sc_top.specs.declared.status.Ending.TheVariants as ending
-use Rattle.sc_top.specs.declared.watch.Asked.{Asked}
 
 -- ---- the words
 

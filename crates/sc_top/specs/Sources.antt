@@ -8,15 +8,16 @@ use Rattle.sc_parse.specs.Pieces.{pieces}
 use Rattle.sc_types.specs.Sources.{fault_of}
 use Rattle.sc_types.specs.Typing.{TypedSource, IsChecked}
 use Rattle.sc_deck.specs.Modules.{Module}
+use Rattle.sc_deck.specs.Turns.{folded_modules}
 use Rattle.sc_meaning.specs.declared.choice.Choice.{Choice}
 use Rattle.sc_meaning.specs.Meaning.{refusal, instances}
 use Rattle.sc_top.specs.Fault.{token_refusal, grammar_refusal, type_refusal, elab_refusal}
 use Rattle.sc_top.specs.Stages.{Then, Gives}
 use Rattle.sc_top.specs.declared.fault.Refusal.{Refusal}
 
--- THE DECK OF A SOURCE: its instances
+-- THE DECK OF A SOURCE: its instances, where each run of equal gates or calls is one item with turns
 abbrev pub modules_of : TypedSource → Choice → List Module
-modules_of t choice = instances t choice
+modules_of t choice = folded_modules (instances t choice)
 
 -- the tokens of a text
 abbrev pub IsTokens : List ℕ → Result (List Token) Refusal → Type 0

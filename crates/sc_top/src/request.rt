@@ -14,7 +14,10 @@ use std::rc::RcStr;
 #[derive(Debug, Drop)]
 pub enum Request {
     /// The hierarchical text of a source.
-    Hier { file: Text, choice: Choice },
+    Hier {
+        file: Text,
+        choice: Choice,
+    },
     /// The flat text of a source, of at most `limit` gates, and the lines of the probes whose rules are asked for.
     Flat {
         file: Text,
@@ -41,11 +44,19 @@ pub enum Request {
         times: Option<Times>,
     },
     /// The flat text of a hierarchical text, of at most `limit` gates.
-    Expand { file: Text, limit: u64 },
+    Expand {
+        file: Text,
+        limit: u64,
+    },
     /// The verdict on a schedule, for the gates of a flat text.
-    Check { flat: Text, schedule: Text },
+    Check {
+        flat: Text,
+        schedule: Text,
+    },
     /// The summary of the drill program of this size.
-    Drill { n: u32 },
+    Drill {
+        n: u32,
+    },
     /// The schedules of a source's instances, each by itself.
     Coarse {
         file: Text,
@@ -55,9 +66,14 @@ pub enum Request {
         lpfs: bool,
     },
     /// The OpenQASM text of a source.
-    ToOpen { file: Text, choice: Choice },
+    ToOpen {
+        file: Text,
+        choice: Choice,
+    },
     /// The flat text of an OpenQASM text.
-    FromOpen { file: Text },
+    FromOpen {
+        file: Text,
+    },
     /// The flat text of a source without pairs that undo each other, and the lines of the probes whose rules are asked for.
     Cancel {
         file: Text,

@@ -41,11 +41,11 @@ impl Asked {
         ensures { probes.new.items ≡ filter (λ p. asks self (rule p)) probes.old.items }
     {
         let asked = self;
-        probes.retain(move |probe: &Box<dyn Probe>|
-            ensures { result ≡ asks asked (rule probe.now) }
-        {
-            asked.wants(probe)
-        });
+        probes.retain(
+            move |probe: &Box<dyn Probe>|
+                ensures { result ≡ asks asked (rule probe.now) }
+            { asked.wants(probe) },
+        );
     }
 }
 

@@ -1,4 +1,4 @@
-use Rattle.std.proofs.Common.{◌≡◌, ℕ, List, [], take, Some, None, Err, sym, ap, ◌∙◌, subst}
+use Rattle.std.proofs.Common.{◌≡◌, List, [], take, Some, None, Err, sym, ap, ◌∙◌, subst}
 use Rattle.sc_base.specs.declared.Place.{Place}
 use Rattle.sc_gate.specs.declared.gate.Wire.{Wire}
 use Rattle.sc_gate.specs.Gates.{AreDistinct}

@@ -1,9 +1,12 @@
-use Rattle.std.proofs.Common.{◌+◌, ◌*◌, ◌<◌, ◌≤◌, length}
+use Rattle.std.proofs.Common.{◌≡◌, ◌+◌, ◌*◌, ◌<◌, length}
+use Rattle.sc_deck.specs.Decks.{CallsFit}
 use Rattle.sc_syntax.specs.Alike.{pure_stmt_list}
-use Rattle.sc_elab.specs.Fine.{taken_by_source, AreFineParts}
+use Rattle.sc_elab.specs.Folding.{IsFolded, HasRoom}
 use Rattle.sc_elab.specs.Frames.{view}
 use Rattle.sc_meaning.specs.Local.{local}
+use Rattle.sc_elab.specs.Machines.{KeepsBodies, GrowsTo}
 use Rattle.sc_elab.specs.Pending.{leaves}
+use Rattle.sc_elab.specs.Typings.{IsTypedBody}
 use Rattle.sc_meaning.specs.Programs.{program_of}
 use Rattle.sc_meaning.specs.Run.{acts}
 use Rattle.sc_elab.proofs.Executing.{Comes}
@@ -23,8 +26,13 @@ decreases-body_of l = 4 * l.depth + 3
 
 abbrev pub invariant-exec-pending : goal.invariant-exec-pending
 invariant-exec-pending l = record {
-  room : length l.machine.entered.keys ≤ 65536;
-  fine : AreFineParts (taken_by_source l.given.checked.now) l.todo.items;
+  kept : KeepsBodies l.given.checked.now l.machine;
+  grows : GrowsTo l.fn.machine.deck l.machine.deck;
+  typed : IsTypedBody l.given.checked.now l.frame l.todo.items;
+  turns : HasRoom l.frame;
+  folded : IsFolded l.frame.body.items;
+  calls : CallsFit l.machine.deck l.frame.body.items;
+  params : l.frame.body.params ≡ l.fn.frame.body.params;
   nested : leaves l.todo.items < length l.frame.numbers;
   comes : Comes l.given.choice (program_of l.given.checked.now) (local (program_of l.given.checked.now) l.depth)
       (acts (program_of l.given.checked.now) (local (program_of l.given.checked.now) l.depth) (pure_stmt_list l.stmts) (view l.fn.frame))

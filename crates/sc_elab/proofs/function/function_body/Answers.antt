@@ -1,12 +1,11 @@
-use Rattle.std.proofs.Common.{◌≡◌, ℕ, ◌<◌, ◌≤◌, List, sym, ap, ◌∙◌, subst, arith}
+use Rattle.std.proofs.Common.{◌<◌, ◌≤◌, length, sym, ap, ◌∙◌, subst, arith}
 use Rattle.std.specs.Prelude.{flat_map}
-use Rattle.sc_deck.specs.declared.item.Item.{Item}
 use Rattle.sc_deck.specs.Bodies.{Contents, IsBody}
+use Rattle.sc_deck.specs.Turns.{folded}
 use Rattle.sc_word.specs.Scratch.{fn_wires}
-use Rattle.sc_meaning.specs.declared.choice.Choice.{Choice}
-use Rattle.sc_meaning.specs.declared.choice.Choice.TheVariants.{Replace}
 use Rattle.sc_elab.specs.FunctionBodies.{chosen_items}
-use Rattle.sc_elab.proofs.FunctionLaws.{items_on, keyed_params, kept_items, replaced_items, body_made, none_made}
+use Rattle.sc_elab.proofs.FunctionLaws.{keyed_params, chosen_all, items_folded, items_call, body_made, none_made}
+use Rattle.sc_elab.proofs.GateCounts.{few_items}
 use Rattle.sc_elab.proofs.function.function_body.Goals as goal
 
 pub returns-then-wires-from-clause-err : goal.returns-then-wires-from-clause-err
@@ -15,31 +14,33 @@ returns-then-wires-from-clause-err c = λ other.
     let many : 65536 < fn_wires t = omega arith in
     none_made c.args.choice c.args.name.now t c.args.key.now c.requires many
 
-pub returns-in-Keep-clause-params : goal.returns-in-Keep-clause-params
-returns-in-Keep-clause-params c =
-    ap (λ (b : Contents). b.params) c.in_ok-kept.ensures.0 ∙ sym (keyed_params c.args.function.now c.args.key.now c.requires)
+pub folded_body-requires-clause-few : goal.folded_body-requires-clause-few
+folded_body-requires-clause-few c =
+    let t = c.args.function.now in
+    let few : fn_wires t ≤ 65536 = omega arith in
+    subst (λ (b : Contents). length b.items ≤ 1048576) (sym c.in_ok-kept.ensures.0) (few_items t c.returned.ensures.well_typed few)
 
-pub returns-in-Keep-clause-ok : goal.returns-in-Keep-clause-ok
-returns-in-Keep-clause-ok c =
+pub returns-clause-params : goal.returns-clause-params
+returns-clause-params c =
+    c.in_ok-body.ensures.params ∙ ap (λ (b : Contents). b.params) c.in_ok-kept.ensures.0 ∙ sym (keyed_params c.args.function.now c.args.key.now c.requires)
+
+pub returns-clause-ok : goal.returns-clause-ok
+returns-clause-ok c =
     let t = c.args.function.now in
     let is = c.in_ok-kept.ensures.0 in
     let few : fn_wires t ≤ 65536 = omega arith in
-    body_made c.args.choice c.args.name.now t c.args.key.now c.in_ok-kept.kept c.requires few (subst IsBody is c.wires-count.ensures.sound)
-    (ap (λ (b : Contents). b.params) is)
-    (ap (λ (b : Contents). b.items) is ∙ kept_items t ∙ ap (λ (k : Choice). items_on k t) (sym c.in-Keep.is))
+    body_made c.args.choice c.args.name.now t c.args.key.now c.in_ok-body.body c.requires few (subst IsBody is c.wires-count.ensures.sound)
+    (c.in_ok-body.ensures.params ∙ ap (λ (b : Contents). b.params) is)
+    (c.in_ok-body.ensures.items ∙ ap (λ (b : Contents). folded (flat_map (chosen_items c.args.choice) b.items)) is ∙ ap folded (chosen_all c.args.choice t))
 
-pub returns-in_ok-replaced_body-in-Replace-clause-params : goal.returns-in_ok-replaced_body-in-Replace-clause-params
-returns-in_ok-replaced_body-in-Replace-clause-params c =
-    c.in_ok-replaced_body-in-Replace.ensures.params ∙ ap (λ (b : Contents). b.params) c.in_ok-kept.ensures.0 ∙ sym (keyed_params c.args.function.now c.args.key.now c.requires)
-
-pub returns-in_ok-replaced_body-in-Replace-clause-ok : goal.returns-in_ok-replaced_body-in-Replace-clause-ok
-returns-in_ok-replaced_body-in-Replace-clause-ok c =
+pub returns-clause-folded : goal.returns-clause-folded
+returns-clause-folded c =
     let t = c.args.function.now in
-    let is = c.in_ok-kept.ensures.0 in
-    let few : fn_wires t ≤ 65536 = omega arith in
-    body_made c.args.choice c.args.name.now t c.args.key.now c.in_ok-replaced_body-in-Replace.field-0 c.requires few (subst IsBody is c.wires-count.ensures.sound)
-    (c.in_ok-replaced_body-in-Replace.ensures.params ∙ ap (λ (b : Contents). b.params) is)
-    (c.in_ok-replaced_body-in-Replace.ensures.items
-    ∙ ap (λ (b : Contents). flat_map (chosen_items Replace) b.items) is
-    ∙ replaced_items t
-    ∙ ap (λ (k : Choice). items_on k t) (sym c.in-Replace.is))
+    items_folded c.args.choice t c.in_ok-body.body
+    (c.in_ok-body.ensures.items ∙ ap (λ (b : Contents). folded (flat_map (chosen_items c.args.choice) b.items)) c.in_ok-kept.ensures.0 ∙ ap folded (chosen_all c.args.choice t))
+
+pub returns-clause-calls : goal.returns-clause-calls
+returns-clause-calls c =
+    let t = c.args.function.now in
+    items_call c.args.choice t c.in_ok-body.body
+    (c.in_ok-body.ensures.items ∙ ap (λ (b : Contents). folded (flat_map (chosen_items c.args.choice) b.items)) c.in_ok-kept.ensures.0 ∙ ap folded (chosen_all c.args.choice t))

@@ -1,7 +1,6 @@
-use Rattle.std.proofs.Common.{◌≡◌, ◌++◌, take}
-use Rattle.std.specs.Prelude.{map}
-use Rattle.sc_deck.specs.declared.item.Item.TheVariants as item
+use Rattle.std.proofs.Common.{◌≡◌, take}
+use Rattle.sc_elab.proofs.PushedGates.{pushed}
 use Rattle.sc_elab.proofs.gates.push_all.Given as goal
 
 abbrev pub invariant-loop-gate : goal.invariant-loop-gate
-invariant-loop-gate l = l.body ≡ record l.fn.body { items = l.fn.body.items ++ map item.Gate (take l.gate-index l.gates) }
+invariant-loop-gate l = l.body ≡ record l.fn.body { items = pushed l.fn.body.items (take l.gate-index l.gates) }

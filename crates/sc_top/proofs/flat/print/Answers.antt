@@ -19,7 +19,7 @@ returns-in-Err g c = record {
 pub returns-in-Ok-print_lines : goal.returns-in-Ok-print_lines
 returns-in-Ok-print_lines g c =
     let lines = lines_after (λ b. (goal.Probe-dyn g (b.vtable, b.value)).rule b.value) (λ b. (goal.Probe-dyn g (b.vtable, b.value)).state b.value) (gates_in (whole c.args.expansion.now)) c.args.probes.now _ _
-        c.in-Ok.ensures.rules c.in-Ok.ensures.states c.in-Ok-reports.ensures.texts in
+    c.in-Ok.ensures.rules c.in-Ok.ensures.states c.in-Ok-reports.ensures.texts in
     let prints = rw c.as_slice.ensures at c.in-Ok-print_lines.ensures in
     record {
       whole = wrote_then c.in-Ok.ensures.appended (wrote_as _ (sym lines) prints.whole);
@@ -44,7 +44,7 @@ returns-in-Err-reports g c = record {
 pub returns : goal.returns
 returns g c =
     let lines = lines_after (λ b. (goal.Probe-dyn g (b.vtable, b.value)).rule b.value) (λ b. (goal.Probe-dyn g (b.vtable, b.value)).state b.value) (gates_in (whole c.args.expansion.now)) c.args.probes.now _ _
-        c.in-Ok.ensures.rules c.in-Ok.ensures.states c.in-Ok-reports.ensures.texts in
+    c.in-Ok.ensures.rules c.in-Ok.ensures.states c.in-Ok-reports.ensures.texts in
     record {
       whole = tt;
       ended = tt;

@@ -1,5 +1,3 @@
-use Rattle.std.proofs.Common.{refl}
-use Rattle.sc_top.proofs.CarryLemmas.{carried_refused}
 use Rattle.sc_top.proofs.run_all.carry.Goals as goal
 
 pub returns-in-Hier : goal.returns-in-Hier

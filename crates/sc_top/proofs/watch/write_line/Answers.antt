@@ -1,5 +1,5 @@
 use Rattle.std.specs.Prelude.{codes, ◌++◌}
-use Rattle.sc_base.proofs.OutputLemmas.{wrote_then, prefix_whole, prefix_more, prefix_then}
+use Rattle.sc_base.proofs.OutputLemmas.{prefix_more, prefix_then}
 use Rattle.sc_top.proofs.watch.write_line.Goals as goal
 
 pub returns-in_err-write_all-clause-prefix : goal.returns-in_err-write_all-clause-prefix

@@ -1,0 +1,9 @@
+pub mod Instances
+pub mod CoarseSchedules
+pub mod CoarseRule
+pub mod Expansions
+pub mod Lengths
+pub mod Refusals
+pub mod Building
+pub mod CoarseText
+pub mod Making
