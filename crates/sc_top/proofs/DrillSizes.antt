@@ -1,5 +1,5 @@
 -- The source of a drill is not too long.
-use Rattle.std.proofs.Common.{◌≡◌, ℕ, zero, suc, ◌+◌, ◌-◌, ◌*◌, ◌/◌, ◌<◌, ◌≤◌, List, ◌++◌, length, decimal, refl, arith, length-append}
+use Rattle.std.proofs.Common.{◌≡◌, ℕ, zero, suc, ◌+◌, ◌-◌, ◌*◌, ◌/◌, ◌≤◌, List, ◌++◌, length, decimal, arith, length-append}
 use Rattle.std.specs.Prelude.{codes, flat_map}
 use Rattle.std.specs.List.{range_with_len}
 use Rattle.std.proofs.lemmas.Fmt.{length-decimal-le}
@@ -29,7 +29,7 @@ module_short : (i : ℕ) → i ≤ 50000 → length (module_line i) ≤ 140
 module_short i small =
     let half : i / 2 ≤ 50000 = omega (arith, small) in
     let all : length (module_line i) ≡ 8 + length (decimal i) + 28 + length (decimal (i / 2)) + 36 + length (decimal (i / 2)) + 13 =
-        of_seven (codes "module m") (decimal i) (codes "(qbit a, qbit b, qbit c) { m") (decimal (i / 2)) (codes "(b, c, a); H(a); CNOT(a, b); T(c); m") (decimal (i / 2)) (codes "(a, b, c); }\n") in
+    of_seven (codes "module m") (decimal i) (codes "(qbit a, qbit b, qbit c) { m") (decimal (i / 2)) (codes "(b, c, a); H(a); CNOT(a, b); T(c); m") (decimal (i / 2)) (codes "(a, b, c); }\n") in
     omega (arith, all, number_short i small, number_short (i / 2) half)
 
 call_short : (i : ℕ) → i ≤ 50000 → length (call_line i) ≤ 140

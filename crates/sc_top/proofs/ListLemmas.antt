@@ -1,12 +1,7 @@
 -- The list of a deck: why it is refused, that it is one, and that there is one.
-use Rattle.std.proofs.Common.{◌≡◌, ℕ, ◌-◌, ◌<◌, ◌≤◌, ◌^◌, List, length, get_or, Ok, Err, Result, refl, sym, ap, ◌∙◌, arith, inl, inr}
-use Rattle.std.proofs.lemmas.Bool.{cases_lt}
+use Rattle.std.proofs.Common.{◌≡◌, ℕ, ◌<◌, List, length, Ok, Err, Result, refl, sym, ap, ◌∙◌, arith}
 use Rattle.sc_base.specs.Limits.{most_gates}
-use Rattle.sc_count.specs.Counting.{counts_in}
 use Rattle.sc_count.specs.Limits.{IsWithin}
-use Rattle.sc_count.specs.Tallies.{StandsFor}
-use Rattle.sc_count.specs.declared.counts.Counts.{Counts}
-use Rattle.sc_count.specs.declared.tally.Tally.{Tally}
 use Rattle.sc_deck.specs.Events.{fresh_in, gates_in}
 use Rattle.sc_deck.specs.Modules.{Module}
 use Rattle.sc_flat.specs.Shown.{ManyWires}
@@ -18,7 +13,6 @@ use Rattle.sc_top.specs.Listed.{list_of, HasFewWires, HasFewGates, IsListed, IsL
 use Rattle.sc_top.specs.Stages.{stops, goes, HasOne, Found, fault_of_refusal}
 use Rattle.sc_top.specs.Tallied.{counts_by}
 use Rattle.sc_top.specs.declared.fault.Refusal.{Refusal}
-use Rattle.sc_top.proofs.DeckPaths.{last_counts}
 use Rattle.sc_top.proofs.ModeLemmas.{one_counted_by}
 use Rattle.sc_top.proofs.StageLemmas.{then_one}
 
@@ -35,31 +29,6 @@ pub listing_why : (times : List ℕ) (modules : List Module) (f : PrepFault) →
 listing_why times modules sizing.TooManyWires within wires gates = record { value = tt; fault = goes tt _ within (stops _ (wires refl, refl)) }
 listing_why times modules sizing.TooManyGates within wires gates = record { value = tt; fault = goes tt _ within (goes tt _ (gates refl).0 ((gates refl).1, refl)) }
 listing_why times modules sizing.Memory within wires gates = record { value = tt; fault = tt }
-
--- ---- what it is
-
--- the numbers of wires where the counts were read
-pub record HasWires (modules : List Module) (counts : Counts) : Type 0 where
-  pub qubits : counts.qubits ≡ (fresh_in (whole modules)).qubits
-  pub cbits : counts.cbits ≡ (fresh_in (whole modules)).cbits
-  pub few_qubits : counts.qubits < 2 ^ 32
-  pub few_cbits : counts.cbits < 2 ^ 32
-
-not_many : (n : ℕ) → (2 ^ 32 ≤ n → ⊥) → n < 2 ^ 32
-not_many n none = elim (cases_lt n (2 ^ 32)) [
-  | inl below ↦ below
-  | inr past ↦ absurd (none past)
-]
-
-pub has_wires : (tally : Tally) (modules : List Module) → StandsFor tally modules → (ManyWires (fresh_in (whole modules)) → ⊥) → (counts : List Counts) → counts ≡ tally.counts → (n : ℕ) (d : Counts) → 0 < length modules → n ≡ length modules →
-    HasWires modules (get_or counts (n - 1) d)
-has_wires tally modules stands narrow counts same n d some count =
-    let is : get_or counts (n - 1) d ≡ counts_in tally.times (whole modules) = last_counts tally modules stands counts same n d some count in
-    let qubits : (get_or counts (n - 1) d).qubits ≡ (fresh_in (whole modules)).qubits = ap (λ (c : Counts). c.qubits) is in
-    let cbits : (get_or counts (n - 1) d).cbits ≡ (fresh_in (whole modules)).cbits = ap (λ (c : Counts). c.cbits) is in
-    let q : (fresh_in (whole modules)).qubits < 2 ^ 32 = not_many (fresh_in (whole modules)).qubits (λ past. narrow (inl past)) in
-    let c : (fresh_in (whole modules)).cbits < 2 ^ 32 = not_many (fresh_in (whole modules)).cbits (λ past. narrow (inr past)) in
-    record { qubits = qubits; cbits = cbits; few_qubits = omega arith; few_cbits = omega arith }
 
 -- ---- one answer
 

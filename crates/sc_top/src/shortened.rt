@@ -87,11 +87,7 @@ fn kept_of<F: Shelf>(
 
 /// The list of a whole deck without the pairs that undo each other, and what the probes tell, which are shown the gates
 /// that stay. It is refused as `listed` is.
-fn shortened(
-    alloc: Global,
-    deck: &Deck,
-    probes: &mut [Box<dyn Probe>],
-) -> Result<KeptGates, Fault>
+fn shortened(alloc: Global, deck: &Deck, probes: &mut [Box<dyn Probe>]) -> Result<KeptGates, Fault>
     requires { IsWhole deck.now }
     ensures { Found (IsShortened (watchers rule state probes.old) deck.now) result }
 {

@@ -1,8 +1,7 @@
-use Rattle.std.proofs.Common.{◌≡◌, ◌+◌, length, ap, sym, subst, arith, ◌∙◌}
+use Rattle.std.proofs.Common.{length, ap, sym, subst, arith}
 use Rattle.sc_deck.proofs.FormedLaws.{gates_of-formed}
 use Rattle.sc_flat.proofs.BeginLemmas.{some_module}
 use Rattle.sc_gate.specs.Gates.{AreWellFormed}
-use Rattle.sc_top.proofs.ListLemmas.{HasWires, has_wires}
 use Rattle.sc_top.proofs.listed.list_from.Goals as goal
 
 pub overflow_sub-last : goal.overflow_sub-last

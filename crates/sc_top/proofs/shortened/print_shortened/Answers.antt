@@ -1,4 +1,4 @@
-use Rattle.std.proofs.Common.{List, flat_map}
+use Rattle.std.proofs.Common.{flat_map}
 use Rattle.std.proofs.lemmas.Result.{err_from_is_err_and}
 use Rattle.sc_top.specs.Watching.{comment_line}
 use Rattle.sc_top.proofs.OtherLemmas.{prints_stops, prints_then}
