@@ -10,17 +10,24 @@ use Rattle.sc_sched.specs.Text.{IsTextOf, schedule_text}
 use Rattle.sc_sched.specs.declared.plan.Plan.{Plan}
 use Rattle.sc_top.specs.Answers.{Says, OfRequest, AreInOrder, HaveOutputs, done, watched, asked_in}
 use Rattle.sc_words.specs.Words.{request}
+use Rattle.sc_meaning.specs.declared.choice.Choice.TheVariants.{Replace}
+use Rattle.sc_top.specs.Drills.{drill_text, drill_summary}
+use Rattle.sc_top.specs.Listed.{ones, list_of}
+use Rattle.sc_top.specs.Lowered.{lowered_text, back_text}
+use Rattle.sc_top.specs.Shortened.{shortened_text}
+use Rattle.sc_top.proofs.ListLemmas.{has_list}
+use Rattle.sc_top.proofs.ModeLemmas.{has_summary, has_plan}
+use Rattle.sc_top.proofs.OtherLemmas.{has_shortened}
 use Rattle.sc_top.specs.Endings.{Output}
 use Rattle.sc_top.specs.Expansions.{whole}
 use Rattle.sc_top.specs.Sources.{modules_of}
 use Rattle.sc_top.specs.Stages.{goes}
 use Rattle.sc_top.specs.Verdicts.{VerdictsAreExact, judged}
-use Rattle.sc_top.specs.Watching.{Watcher}
+use Rattle.sc_top.specs.Watching.{Watcher, asked_of}
 use Rattle.sc_words.specs.declared.Request.{Request}
-use Rattle.sc_words.specs.declared.Request.TheVariants.{Hier, Flat, Count, Schedule, Expand, Check}
+use Rattle.sc_words.specs.declared.Request.TheVariants.{Hier, Flat, Count, Schedule, Expand, Check, Drill, ToOpen, FromOpen, Cancel}
 use Rattle.sc_top.specs.Reports.{report_text}
 use Rattle.sc_top.specs.Tallied.{durations}
-use Rattle.sc_top.proofs.ModeLemmas.{has_summary, has_plan}
 use Rattle.sc_top.proofs.SourceLaws.{accepted_source, writable}
 
 has_output : (held : List ℕ → Option (List ℕ)) (all : List Watcher) (job : Request) → AreInOrder held job → (output : Output) × Says held all job (Ok output)
@@ -51,6 +58,26 @@ has_output held all (Check list schedule) here =
     let (plan, is) = there.so in (
       judged (finding gates.gates plan),
       goes (finding gates.gates plan) _ (goes here.text _ (here.holds, here.within) (goes there.text _ (there.holds, there.within) (goes gates _ read (goes plan _ is refl)))) refl,
+    )
+has_output held all (Drill n) here =
+    let (t, accepted, within) = here in
+    let modules = modules_of t Replace in
+    let (summary, is) = has_summary ones modules within in
+    (done (drill_summary n summary), goes summary _ (goes modules _ (accepted_source (drill_text n) t Replace accepted) is) refl)
+has_output held all (ToOpen file choice) here =
+    let (t, accepted, fits) = here.so in
+    let modules = modules_of t choice in (
+      done (lowered_text (list_of modules)),
+      goes (list_of modules) _ (goes modules _ (goes here.text _ (here.holds, here.within) (accepted_source here.text t choice accepted)) (has_list ones modules fits)) refl,
+    )
+has_output held all (FromOpen file) here =
+    let (opened, read) = here.so in (done (back_text opened), goes opened _ (goes here.text _ (here.holds, here.within) read) refl)
+has_output held all (Cancel file choice kinds burst window reach) here =
+    let (t, accepted, fits) = here.so in
+    let modules = modules_of t choice in
+    let asked = asked_of (record { kinds = kinds; burst = burst; window = window; reach = reach }) all in (
+      done (shortened_text asked (list_of modules)),
+      goes (shortened_text asked (list_of modules)) _ (goes modules _ (goes here.text _ (here.holds, here.within) (accepted_source here.text t choice accepted)) (has_shortened asked modules fits)) refl,
     )
 has_output held all job here = absurd here
 

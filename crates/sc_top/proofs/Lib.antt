@@ -5,7 +5,10 @@ mod FewGates
 mod InOrder
 pub mod ModeLemmas
 pub mod OneAnswer
-mod Ranges
+mod DrillParts
+mod DrillSizes
+mod ListLemmas
+mod OtherLemmas
 mod RunLemmas
 mod SourceLaws
 mod StageLemmas

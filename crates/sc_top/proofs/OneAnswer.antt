@@ -38,20 +38,25 @@ use Rattle.sc_types.specs.Sources.{fault_of}
 use Rattle.sc_types.specs.Typing.{TypedSource}
 use Rattle.sc_top.specs.Answers.{IsText, SourceOf, Says, OfRequest, HasOneAnswer}
 use Rattle.sc_words.specs.Words.{request}
+use Rattle.sc_meaning.specs.declared.choice.Choice.TheVariants.{Replace}
+use Rattle.sc_top.specs.Drills.{drill_text}
+use Rattle.sc_top.specs.Listed.{ones}
+use Rattle.sc_top.proofs.ListLemmas.{one_listed}
+use Rattle.sc_top.proofs.ModeLemmas.{one_summarized, one_scheduled}
+use Rattle.sc_top.proofs.OtherLemmas.{one_opened, one_shortened}
 use Rattle.sc_top.specs.Endings.{Output}
 use Rattle.sc_top.specs.Expansions.{IsDeckOf, IsCounted, IsOversized, IsSized, IsWritable, IsExpansion, whole_counts}
 use Rattle.sc_top.specs.Fault.{token_refusal, grammar_refusal, type_refusal, elab_refusal, flat_refusal, plan_refusal, hier_refusal}
 use Rattle.sc_top.specs.Sources.{IsTokens, IsTree, IsTyped, IsElaborated, IsSource}
 use Rattle.sc_top.specs.Stages.{Then, stops, goes, HasOne, HasOneLike}
 use Rattle.sc_top.specs.Verdicts.{IsList, IsPlan, IsVerdict}
-use Rattle.sc_top.specs.Watching.{Watcher}
+use Rattle.sc_top.specs.Watching.{Watcher, asked_of}
 use Rattle.sc_top.specs.declared.fault.Refusal.{Refusal}
 use Rattle.sc_words.specs.declared.Request.{Request}
-use Rattle.sc_words.specs.declared.Request.TheVariants.{Hier, Flat, Count, Schedule, Expand, Check}
+use Rattle.sc_words.specs.declared.Request.TheVariants.{Hier, Flat, Count, Schedule, Expand, Check, Drill, ToOpen, FromOpen, Cancel}
 use Rattle.sc_top.proofs.FewGates.{few_gates}
 use Rattle.sc_top.proofs.SourceLaws.{modules_alike}
 use Rattle.sc_top.specs.Tallied.{durations}
-use Rattle.sc_top.proofs.ModeLemmas.{one_summarized, one_scheduled}
 use Rattle.sc_top.proofs.StageLemmas.{same_some, gives_one, known_fault, then_one_like, then_one, is_one}
 
 abbrev given : (A : Type 0) → A → Result A Refusal
@@ -205,6 +210,10 @@ says_one held all (Schedule file choice k d lpfs times) = then_one (then_one (on
 says_one held all (Expand file limit) = then_one (then_one (one_text held most_text_bytes file) (λ text read. one_expansion limit text)) (λ modules sized. is_one _)
 says_one held all (Check list schedule) =
     then_one (then_one (one_text held most_text_bytes list) (λ gates read. then_one (one_text held most_text_bytes schedule) (λ plan also. one_verdict gates plan))) (λ found judged. is_one _)
+says_one held all (Drill n) = then_one (then_one (one_source Replace (drill_text n)) (λ modules built. one_summarized ones modules)) (λ summary told. is_one _)
+says_one held all (ToOpen file choice) = then_one (then_one (one_source_of held file choice) (λ modules built. one_listed ones modules)) (λ list listed. is_one _)
+says_one held all (FromOpen file) = then_one (then_one (one_text held most_text_bytes file) (λ text read. one_opened text)) (λ opened is. is_one _)
+says_one held all (Cancel file choice kinds burst window reach) = then_one (then_one (one_source_of held file choice) (λ modules built. one_shortened (asked_of (record { kinds = kinds; burst = burst; window = window; reach = reach }) all) modules)) (λ text kept. is_one _)
 says_one held all job = is_one _
 
 of_one : (held : List ℕ → Option (List ℕ)) (all : List Watcher) (found : Option Request) (a b : Result Output Refusal) →

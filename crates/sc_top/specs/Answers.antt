@@ -4,6 +4,14 @@ use Rattle.std.specs.Str.{bytes_eq}
 use Rattle.sc_base.specs.Limits.{most_source_bytes, most_text_bytes}
 use Rattle.sc_count.specs.Limits.{IsWithin}
 use Rattle.sc_check.specs.declared.finding.Finding.{Finding}
+use Rattle.sc_open.specs.OpenReads.{IsInGrammar}
+use Rattle.sc_open.specs.declared.text.OpenText.{OpenText}
+use Rattle.sc_top.specs.Drills.{drill_text, drill_summary}
+use Rattle.sc_top.specs.Listed.{ones, IsListed, IsListable}
+use Rattle.sc_top.specs.Lowered.{IsOpened, lowered_text, back_text}
+use Rattle.sc_top.specs.Shortened.{IsShortened}
+use Rattle.sc_top.specs.Tallied.{counts_by, IsSummarized, durations}
+use Rattle.sc_top.specs.declared.report.Summary.{Summary}
 use Rattle.sc_deck.specs.Events.{flat, gates_in}
 use Rattle.sc_deck.specs.Hierarchical.{hier}
 use Rattle.sc_deck.specs.Modules.{Module}
@@ -23,25 +31,16 @@ use Rattle.sc_top.specs.Sources.{modules_of, IsSource, IsAcceptedAs}
 use Rattle.sc_top.specs.Reports.{report_text}
 use Rattle.sc_top.specs.Scheduled.{IsScheduled, IsSchedulable}
 use Rattle.sc_top.specs.Stages.{Then, Is, HasOne}
-use Rattle.sc_top.specs.Tallied.{durations, counts_by, IsSummarized}
 use Rattle.sc_top.specs.Verdicts.{IsVerdict, judged}
 use Rattle.sc_top.specs.Watching.{Watcher, asked_of, probe_lines, AreSome}
 use Rattle.sc_top.specs.declared.fault.Fault.{Fault}
 use Rattle.sc_top.specs.declared.fault.Refusal.{Refusal}
 use Rattle.sc_top.specs.declared.fault.Reason.TheVariants as reason
-use Rattle.sc_top.specs.declared.report.Summary.{Summary}
 use Rattle.sc_words.specs.Words.{request}
 use Rattle.sc_words.specs.declared.Request.{Request}
-use Rattle.sc_words.specs.declared.Request.TheVariants.{Hier, Flat, Count, Schedule, Expand, Check}
+use Rattle.sc_words.specs.declared.Request.TheVariants.{Hier, Flat, Count, Schedule, Expand, Check, Drill, ToOpen, FromOpen, Cancel}
 use Rattle.sc_top.specs.declared.status.Ending.{Ending}
 use Rattle.sc_top.specs.declared.status.Ending.TheVariants as ending
-
--- ---- the requests
-
--- the numbers of a request are at least 1 where they have to be
-abbrev pub InRange : Request → Type 0
-InRange (Schedule file choice k d lpfs times) = (1 ≤ k) × (1 ≤ d)
-InRange _ = Unit {0}
 
 -- ---- the answer of a request
 
@@ -65,6 +64,21 @@ SummaryOf held file choice times = Then (SourceOf held file choice) (IsSummarize
 -- the schedule of the source under the name, on k regions of d qubits
 abbrev pub PlanOf : (List ℕ → Option (List ℕ)) → List ℕ → Choice → ℕ → ℕ → Bool → Option (List ℕ) → Result Plan Refusal → Type 0
 PlanOf held file choice k d lpfs times = Then (SourceOf held file choice) (IsScheduled k d lpfs (durations times))
+-- the list of gates of the source under the name
+abbrev pub ListOf : (List ℕ → Option (List ℕ)) → List ℕ → Choice → Result FlatText Refusal → Type 0
+ListOf held file choice = Then (SourceOf held file choice) (IsListed ones)
+
+-- the text of that list without the pairs that undo each other, and of the lines of these probes
+abbrev pub ShortenedOf : (List ℕ → Option (List ℕ)) → List Watcher → List ℕ → Choice → Result (List ℕ) Refusal → Type 0
+ShortenedOf held all file choice = Then (SourceOf held file choice) (IsShortened all)
+
+-- the registers and lines of the OpenQASM text under the name
+abbrev pub OpenedOf : (List ℕ → Option (List ℕ)) → List ℕ → Result OpenText Refusal → Type 0
+OpenedOf held file = Then (IsText held most_text_bytes file) IsOpened
+
+-- the numbers of the deck of the source that a drill of n makes
+abbrev pub DrilledOf : ℕ → Result Summary Refusal → Type 0
+DrilledOf n = Then (IsSource Replace (drill_text n)) (IsSummarized ones)
 
 -- the deck of the hierarchical text under the name, whose flat text has at most so many gates
 abbrev pub ExpansionOf : (List ℕ → Option (List ℕ)) → ℕ → List ℕ → Result (List Module) Refusal → Type 0
@@ -97,6 +111,11 @@ Says held all (Count file choice times) = Then (SummaryOf held file choice times
 Says held all (Schedule file choice k d lpfs times) = Then (PlanOf held file choice k d lpfs times) (λ plan. Is (Ok (done (schedule_text plan))))
 Says held all (Expand file limit) = Then (ExpansionOf held limit file) (λ modules. Is (Ok (done (flat (whole modules)))))
 Says held all (Check list schedule) = Then (VerdictOf held list schedule) (λ found. Is (Ok (judged found)))
+Says held all (Drill n) = Then (DrilledOf n) (λ summary. Is (Ok (done (drill_summary n summary))))
+Says held all (ToOpen file choice) = Then (ListOf held file choice) (λ list. Is (Ok (done (lowered_text list))))
+Says held all (FromOpen file) = Then (OpenedOf held file) (λ opened. Is (Ok (done (back_text opened))))
+Says held all (Cancel file choice kinds burst window reach) =
+    Then (ShortenedOf held (asked_of (record { kinds = kinds; burst = burst; window = window; reach = reach }) all) file choice) (λ text. Is (Ok (done text)))
 Says held all _ = Is (Err (plain reason.Unbuilt))
 
 -- memory may be wanting after the first byte of output: where a probe that was handed in is asked for
@@ -154,6 +173,10 @@ AreInOrder held (Schedule file choice k d lpfs times) =
 AreInOrder held (Expand file limit) = Holds held most_text_bytes file (λ text. (modules : List Module) × IsHierText text modules × FitsFlat limit modules)
 AreInOrder held (Check list schedule) =
     Holds held most_text_bytes list (λ text. (gates : FlatText) × IsFlatText text gates × Holds held most_text_bytes schedule (λ other. (plan : Plan) × IsTextOf (length gates.gates) other plan))
+AreInOrder held (Drill n) = (t : TypedSource) × IsAcceptedAs (drill_text n) t × IsWithin (counts_by ones (modules_of t Replace))
+AreInOrder held (ToOpen file choice) = Holds held most_source_bytes file (λ text. (t : TypedSource) × IsAcceptedAs text t × IsListable ones (modules_of t choice))
+AreInOrder held (FromOpen file) = Holds held most_text_bytes file (λ text. (opened : OpenText) × IsInGrammar text opened)
+AreInOrder held (Cancel file choice kinds burst window reach) = Holds held most_source_bytes file (λ text. (t : TypedSource) × IsAcceptedAs text t × IsListable ones (modules_of t choice))
 AreInOrder held _ = ⊥
 
 -- words whose texts are in order have an output

@@ -183,6 +183,7 @@ reason_name reason.CountTooLarge = codes "CountTooLarge"
 reason_name reason.TooManyWires = codes "TooManyWires"
 reason_name reason.TooManyGates = codes "TooManyGates"
 reason_name reason.SchedTooLarge = codes "SchedTooLarge"
+reason_name reason.BadOpen = codes "BadOpen"
 reason_name reason.Narrow = codes "Narrow"
 
 -- the line, a colon, the column, a colon and a space

@@ -76,6 +76,7 @@ pub enum Reason {
     TooManyGates,
     SchedTooLarge,
     Narrow,
+    BadOpen,
 }
 
 /// The status that a reason leads to.
@@ -105,7 +106,7 @@ fn at_place(reason: Reason, place: Place) -> Fault
     })
 }
 
-fn at_line(reason: Reason, line: u32) -> Fault
+pub(crate) fn at_line(reason: Reason, line: u32) -> Fault
     ensures { result ≡ Fault.Refused (record { reason = reason; at = At.Line line }) }
 {
     Fault::Refused(Refusal {
@@ -297,6 +298,7 @@ impl Reason {
             Reason::TooManyWires => b"TooManyWires",
             Reason::TooManyGates => b"TooManyGates",
             Reason::SchedTooLarge => b"SchedTooLarge",
+            Reason::BadOpen => b"BadOpen",
             Reason::Narrow => b"Narrow",
         }
     }

@@ -3,8 +3,8 @@ ghost use Rattle.std.specs.Prelude.{◌≡◌, ◌≤◌, ◌⊎◌, ◌↔◌, 
 ghost use Rattle.std.specs.Rc.{rc_str_bytes};
 ghost use Rattle.sc_base.specs.Causes.{Rose, Stood};
 ghost use Rattle.sc_base.specs.Output.{Wrote, WrotePrefix};
-ghost use Rattle.sc_words.specs.Words.{request};
-ghost use Rattle.sc_top.specs.Answers.{InRange, CarriedOut, Answers, MayBeLate, MayLeave, HasOneAnswer, HaveOutputs};
+ghost use Rattle.sc_words.specs.Words.{request, InRange};
+ghost use Rattle.sc_top.specs.Answers.{CarriedOut, Answers, MayBeLate, MayLeave, HasOneAnswer, HaveOutputs};
 ghost use Rattle.sc_top.specs.Carried.{Carried, Short};
 ghost use Rattle.sc_top.specs.Endings.{Output, status_at, is_done, is_early};
 ghost use Rattle.sc_top.specs.Fault.{status_of, fault_line, Tells};
@@ -17,12 +17,16 @@ ghost use Rattle.sc_top.specs.declared.fault.Fault.{Fault as AnyFault};
 ghost use Rattle.sc_top.specs.declared.fault.Refusal.{Refusal};
 
 use crate::count::carry_count;
+use crate::drill::carry_drill;
 use crate::expand::carry_expand;
 use crate::fault::{Fault, Reason, plainly};
 use crate::flat::carry_flat;
 use crate::hier::carry_hier;
 use sc_words::{Request, WordsFault, read_words};
+use crate::lowered::carry_open;
+use crate::reopened::carry_reopen;
 use crate::schedule::carry_schedule;
+use crate::shortened::carry_cancel;
 use crate::status::{Ending, Status};
 use crate::verdict::carry_check;
 use crate::watch::Asked;
@@ -125,11 +129,28 @@ fn carry<F: Shelf, O: Sink>(
             shelf,
             out,
         ),
-        Request::Drill { .. }
-        | Request::Coarse { .. }
-        | Request::ToOpen { .. }
-        | Request::FromOpen { .. }
-        | Request::Cancel { .. } => Err(plainly(Reason::Unbuilt)),
+        Request::Drill { n } => carry_drill(alloc, *n, shelf, out),
+        Request::ToOpen { file, choice } => {
+            carry_open(alloc, file.as_bytes(), *choice, shelf, out)
+        }
+        Request::FromOpen { file } => carry_reopen(alloc, file.as_bytes(), shelf, out),
+        Request::Cancel {
+            file,
+            choice,
+            kinds,
+            burst,
+            window,
+            reach,
+        } => {
+            let asked = Asked {
+                kinds: *kinds,
+                burst: *burst,
+                window: *window,
+                reach: *reach,
+            };
+            carry_cancel(alloc, file.as_bytes(), *choice, asked, probes, shelf, out)
+        }
+        Request::Coarse { .. } => Err(plainly(Reason::Unbuilt)),
     }
 }
 

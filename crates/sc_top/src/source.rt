@@ -34,7 +34,7 @@ pub(crate) fn source_of<F: Shelf>(
 }
 
 /// The deck of a source.
-fn build_deck(alloc: Global, source: &[u8], choice: Choice) -> Result<Deck, Fault>
+pub(crate) fn build_deck(alloc: Global, source: &[u8], choice: Choice) -> Result<Deck, Fault>
     requires { length source.now ≤ most_source_bytes }
     ensures deck { Found (IsSource choice source.now) result }
     ensures whole { IfOk result IsWhole }

@@ -6,3 +6,4 @@ pub mod WordsValues
 pub mod WordsRules
 pub mod WordsAsked
 pub mod WordsExamples
+pub mod WordsRange

@@ -1,17 +1,16 @@
 -- What a mode asks for with what was found.
-use Rattle.std.proofs.Common.{◌≡◌, ◌∙◌, ◌<◌, ◌≤◌, ◌==◌, ◌&&◌, ℕ, Bool, true, false, refl, sym, ap, subst, arith, List, [], ◌∷◌, length, Option, Some, None, Result, Ok, Err, IfOk, true≢false, is_some, codes}
-use Rattle.std.specs.Prelude.{IsErrOf, ok_or, option_and_then, option_map, slice_get, if◌then◌else◌}
+use Rattle.std.proofs.Common.{◌≡◌, ◌∙◌, ◌≤◌, ◌==◌, ◌&&◌, ℕ, Bool, true, false, refl, sym, ap, subst, arith, List, [], ◌∷◌, length, Option, Some, None, Result, Ok, Err, IfOk, true≢false}
+use Rattle.std.specs.Prelude.{IsErrOf, ok_or, option_and_then, slice_get, if◌then◌else◌}
 use Rattle.std.proofs.lemmas.Bool.Decides.{nat_tests}
 use Rattle.clap.specs.Matches.{first_value}
 use Rattle.clap.specs.declared.parser.matches.Found.{Found}
-use Rattle.sc_words.specs.Words.{Piece, asked, asked_of, fits, is_flag, is_single, operand_count, operands_of, option_text, value_of, values_by}
+use Rattle.sc_words.specs.Words.{Piece, asked, asked_of, fits, operand_count, operands_of, option_text, value_of, values_by}
 use Rattle.sc_words.specs.WordsCommands.{AreOf, asked_by}
 use Rattle.sc_words.specs.declared.request.Request.{Request}
 use Rattle.sc_words.specs.declared.request.WordsFault.{WordsFault}
 use Rattle.sc_words.specs.declared.request.WordsFault.TheVariants.{Usage}
 use Rattle.sc_words.specs.declared.words.table.Mode.{Mode}
 use Rattle.sc_words.specs.declared.words.table.Mode.TheVariants as mode
-use Rattle.sc_words.specs.declared.words.table.OptionName.{OptionName}
 use Rattle.sc_words.specs.declared.words.table.OptionName.TheVariants as name
 use Rattle.sc_words.specs.declared.words.values.Values.{Values}
 use Rattle.sc_words.proofs.WordsRow.{map_inverts, none≢some}

@@ -1,12 +1,11 @@
 -- What clap found for the words of a row is their pieces, and where it refuses them they have no request.
-use Rattle.std.proofs.Common.{◌≡◌, ◌∙◌, ◌<◌, ◌≤◌, ◌+◌, ◌&&◌, ◌||◌, ◌⊎◌, ◌==◌, ℕ, Bool, cond, not, true, false, zero, suc, refl, sym, ap, ap₂, subst, arith, inl, inr, List, [], ◌∷◌, ◌++◌, length, Option, Some, None, true≢false, codes, is_some}
-use Rattle.std.specs.Prelude.{find, fold, nat_le, option_and_then, option_map, slice_get, if◌then◌else◌}
+use Rattle.std.proofs.Common.{◌≡◌, ◌∙◌, ◌≤◌, ◌+◌, ◌&&◌, ◌||◌, ◌⊎◌, ◌==◌, ℕ, Bool, cond, not, true, false, suc, refl, sym, ap, ap₂, subst, arith, inl, inr, List, [], ◌∷◌, ◌++◌, length, Option, Some, None, true≢false, codes, is_some}
+use Rattle.std.specs.Prelude.{find, fold, nat_le, option_and_then, slice_get, if◌then◌else◌}
 use Rattle.std.specs.List.{list_any}
 use Rattle.std.specs.Str.{bytes_eq}
 use Rattle.std.proofs.lemmas.Bool.Decides.{nat_tests}
 use Rattle.clap.specs.Faults.{check_fault, default_fault, defaults_fault, fault_of, is_simple_and_free, level_fault, settle_fault, walk_fault}
 use Rattle.clap.specs.Kinds.{or_else}
-use Rattle.clap.specs.Matches.{first_value, one_text}
 use Rattle.clap.specs.Simple.{built, is_simple, matches_of}
 use Rattle.clap.specs.Takes.{is_given}
 use Rattle.clap.specs.Walk.{Row, Rule, Text, first_of, has_row, nothing_held, one_of, row_text, rows_after, rows_of, settled, walk, walk_from, walked, with_default, with_values}

@@ -1,6 +1,6 @@
 -- The arguments of a row, as clap finds them, and the rows of pieces among its matches.
-use Rattle.std.proofs.Common.{◌≡◌, ◌∙◌, ◌<◌, ◌≤◌, ◌+◌, ◌==◌, ◌&&◌, ◌||◌, ℕ, Bool, cond, not, true, false, zero, suc, refl, sym, ap, ap₂, subst, arith, List, [], ◌∷◌, ◌++◌, map, length, Option, Some, None, true≢false, codes, is_some}
-use Rattle.std.specs.Prelude.{find, option_map, unwrap_or, if◌then◌else◌}
+use Rattle.std.proofs.Common.{◌≡◌, ◌∙◌, ◌<◌, ◌≤◌, ◌+◌, ◌==◌, ◌&&◌, ◌||◌, ℕ, Bool, cond, not, true, false, zero, suc, refl, sym, ap, arith, List, [], ◌∷◌, ◌++◌, map, length, Option, Some, None, true≢false, codes, is_some}
+use Rattle.std.specs.Prelude.{option_map, unwrap_or, if◌then◌else◌}
 use Rattle.std.specs.List.{list_any}
 use Rattle.std.specs.Str.{bytes_eq}
 use Rattle.std.proofs.lemmas.Slice.Eq.{bytes_eq-Decides}
@@ -8,12 +8,10 @@ use Rattle.std.proofs.lemmas.Bool.Decides.{nat_tests}
 use Rattle.clap.specs.Simple.{filled, new_rule, with_index}
 use Rattle.clap.specs.Walk.{Row, Rule, Text, arg_by_id, arg_by_index, arg_by_long, arg_by_short, at_row, has_row, more_values, with_values, without}
 use Rattle.clap.specs.declared.builder.action.ArgAction.TheVariants.{Set, SetTrue}
-use Rattle.clap.specs.declared.builder.value_parser.Reading.{Reading}
 use Rattle.clap.specs.declared.builder.value_parser.Reading.TheVariants.{AsWritten}
-use Rattle.clap.specs.declared.parser.matches.ValueSource.{ValueSource}
 use Rattle.clap.specs.declared.parser.matches.ValueSource.TheVariants.{CommandLine}
 use Rattle.sc_words.specs.Words.{Piece, option, operand, is_flag, operands_of, option_named, option_text, or_value, stands, value_of}
-use Rattle.sc_words.specs.WordsCommands.{named_rule, operand_names, option_rule}
+use Rattle.sc_words.specs.WordsCommands.{named_rule}
 use Rattle.sc_words.specs.declared.words.table.OptionName.{OptionName}
 use Rattle.sc_words.specs.declared.words.table.OptionName.TheVariants as name
 

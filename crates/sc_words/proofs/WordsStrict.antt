@@ -1,21 +1,18 @@
 -- The shapes of words as clap sees them, and the strict reading of words against the reading that is defined.
-use Rattle.std.proofs.Common.{◌≡◌, ◌∙◌, ◌<◌, ◌≤◌, ◌+◌, ◌==◌, ◌&&◌, ◌||◌, ℕ, Bool, cond, not, true, false, zero, suc, refl, sym, ap, ap₂, subst, arith, List, [], ◌∷◌, ◌++◌, map, length, Option, Some, None, true≢false, codes, is_some, append-nil}
+use Rattle.std.proofs.Common.{◌≡◌, ◌∙◌, ◌+◌, ◌==◌, ◌&&◌, ◌||◌, ℕ, Bool, not, true, false, suc, refl, sym, ap, ap₂, subst, arith, List, [], ◌∷◌, ◌++◌, length, Option, Some, None, true≢false, is_some, append-nil}
 use Rattle.sc_base.specs.GateNames.{gate_named}
 use Rattle.std.specs.Prelude.{replicate, take, nat_le, option_and_then, option_map, unwrap_or, if◌then◌else◌, slice_get}
-use Rattle.std.specs.List.{before_first, after_first, list_all, list_any, onto_first, position_or_len, slice_split}
-use Rattle.std.specs.Char.{encode_utf8, is_ascii_digit}
+use Rattle.std.specs.List.{before_first, after_first, list_any, onto_first, position_or_len, slice_split}
+use Rattle.std.specs.Char.{encode_utf8}
 use Rattle.std.specs.Str.{bytes_eq, chars, encode_utf8_all, IsUtf8}
-use Rattle.std.specs.Str.Parse.{digits_value}
-use Rattle.std.proofs.lemmas.Str.{IsUtf8-had, chars-append, chars-encodes, encodes-chars}
-use Rattle.std.proofs.lemmas.Slice.Eq.{bytes_eq-Decides}
+use Rattle.std.proofs.lemmas.Str.{chars-append, encodes-chars}
 use Rattle.std.proofs.lemmas.Bool.Decides.{nat_tests}
-use Rattle.clap.specs.Lexer.{long_of, short_of}
-use Rattle.sc_words.specs.Words.{Piece, Shape, option, operand, ends, named, plain, refused, at_end, in_form, is_equals, is_flag, is_lpfs, is_repeated, is_single, number, onto, option_named, option_text, or_value, pieces_from, shape_after_one, shape_after_two, shape_of, stands, times_entry, times_from, times_of, value_in, value_of, values_by, with_entry, with_flag, with_next, with_option, with_value, with_word}
+use Rattle.sc_words.specs.Words.{Piece, Shape, option, operand, ends, named, plain, refused, in_form, is_equals, is_flag, is_lpfs, is_repeated, is_single, number, onto, option_named, option_text, or_value, pieces_from, shape_after_one, shape_after_two, shape_of, stands, times_entry, times_from, times_of, value_in, value_of, values_by, with_entry, with_flag, with_option, with_value, with_word}
 use Rattle.sc_words.specs.declared.words.table.OptionName.{OptionName}
 use Rattle.sc_words.specs.declared.words.table.OptionName.TheVariants as name
 use Rattle.sc_words.specs.declared.words.values.Values.{Values}
 use Rattle.sc_words.proofs.WordsRow.{and_false, both_true, if_same, map_inverts, none≢some, not_true, or_false, same_text, text_itself}
-use Rattle.sc_words.proofs.WordsWalk.{Sorted, singles, strict, strict_next, strict_word, taken}
+use Rattle.sc_words.proofs.WordsWalk.{Sorted, singles, strict, strict_word, taken}
 
 abbrev Text : Type 0
 Text = List ℕ

@@ -1,5 +1,5 @@
 -- Numbers and entries of times lists as they are read.
-use Rattle.std.proofs.Common.{◌≡◌, ◌∙◌, ◌<◌, ◌≤◌, ◌+◌, ◌^◌, ◌==◌, ◌&&◌, ◌||◌, ℕ, Bool, cond, not, true, false, zero, suc, refl, sym, ap, ap₂, arith, inl, inr, List, [], ◌∷◌, drop, length, get_or, Option, Some, None, true≢false}
+use Rattle.std.proofs.Common.{◌≡◌, ◌∙◌, ◌<◌, ◌≤◌, ◌+◌, ◌^◌, ◌&&◌, ◌||◌, ℕ, Bool, cond, not, true, false, suc, refl, sym, ap, arith, List, [], ◌∷◌, drop, length, get_or, Some, None, true≢false}
 use Rattle.std.specs.Prelude.{MatchOption, SomeIff, map, nat_le, option_and_then, option_map, slice_set, if◌then◌else◌}
 use Rattle.std.specs.Borrow.{Bor}
 use Rattle.std.specs.Char.{is_ascii_digit}

@@ -1,19 +1,18 @@
 -- What clap makes of the words of a row is their reading as pieces.
-use Rattle.std.proofs.Common.{◌≡◌, ◌∙◌, ◌<◌, ◌≤◌, ◌+◌, ◌==◌, ◌&&◌, ◌||◌, ℕ, Bool, cond, not, true, false, zero, suc, refl, sym, ap, ap₂, subst, arith, List, [], ◌∷◌, ◌++◌, map, length, min, Option, Some, None, true≢false, inl, inr, codes, is_some, append_assoc, append-nil}
-use Rattle.std.specs.Prelude.{nat_le, nat_lt, option_map, unwrap_or, if◌then◌else◌, slice_get, fold}
-use Rattle.std.specs.List.{before_first, after_first, list_any}
-use Rattle.std.specs.Str.{bytes_eq, chars, IsUtf8}
+use Rattle.std.proofs.Common.{◌≡◌, ◌∙◌, ◌<◌, ◌≤◌, ◌+◌, ◌&&◌, ℕ, Bool, cond, not, true, false, suc, refl, sym, ap, ap₂, subst, arith, List, [], ◌∷◌, ◌++◌, map, min, Option, Some, None, true≢false, inl, inr, codes, append_assoc, append-nil}
+use Rattle.std.specs.Prelude.{nat_le, option_map, if◌then◌else◌, slice_get, fold}
+use Rattle.std.specs.Str.{bytes_eq, chars}
 use Rattle.std.proofs.lemmas.Bool.{cases_lt}
 use Rattle.std.proofs.lemmas.Bool.Decides.{nat_tests}
 use Rattle.clap.specs.Faults.{bundle_fault, flags_fault, long_fault, repeat_fault, settle_fault, turn_fault, use_fault, walk_fault, word_fault}
 use Rattle.clap.specs.Kinds.{Kinds, or_else}
 use Rattle.clap.specs.Lexer.{long_of, short_of, usize_max}
 use Rattle.clap.specs.Simple.{Shape as CommandShape, new_shape}
-use Rattle.clap.specs.Walk.{Held, Row, Rule, Text, Waiting, Walk, arg_by_id, arg_by_index, arg_by_long, arg_by_short, has_row, idle, is_pending, settled, walked, Step, after_step, done, long_met, positional_held, pushed, reacted, to_positional, used, word_met}
+use Rattle.clap.specs.Walk.{Held, Row, Rule, Text, Waiting, Walk, arg_by_long, has_row, idle, is_pending, settled, walked, Step, after_step, done, long_met, positional_held, pushed, reacted, to_positional, used, word_met}
 use Rattle.clap.specs.declared.error.kind.ErrorKind.TheVariants.{InvalidValue}
 use Rattle.clap.specs.Walk.{nothing_held, walk_from}
 use Rattle.clap.specs.Walk.{option as waiting_for, value as value_step}
-use Rattle.sc_words.specs.Words.{Piece, Shape, option, operand, ends, named, plain, refused, is_flag, is_repeated, is_equals, onto, with_flag, with_option, with_value, at_end, operands_of, option_named, option_text, shape_of, stands}
+use Rattle.sc_words.specs.Words.{Piece, Shape, option, operand, ends, named, plain, refused, is_flag, is_repeated, onto, with_flag, with_option, with_value, at_end, option_named, option_text, shape_of, stands}
 use Rattle.sc_words.specs.declared.words.table.OptionName.{OptionName}
 use Rattle.sc_words.proofs.WordsRow.{and_false, both_true, not_true, or_false, named_arg, option_arg, operand_name, operand_arg, operands_in, row_args, found_named, found_short, found_place, no_place, named_so, found_option, found_operand, row_with, shown, rows_from, name_of, text_of, count_of, rows_more, count_more, option_row, operand_row, row_used, text_itself}
 

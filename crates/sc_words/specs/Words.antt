@@ -299,3 +299,10 @@ row_request m words = option_and_then (asked m) (row_of m words)
 abbrev pub request : List (List ℕ) → Option Request
 request [] = None
 request (word ∷ words) = option_and_then (λ m. row_request m words) (mode_named word)
+
+-- the numbers of a request are in their ranges
+abbrev pub InRange : Request → Type 0
+InRange (asks.Schedule file choice k d lpfs times) = (1 ≤ k) × (1 ≤ d)
+InRange (asks.Coarse file choice k d lpfs) = (1 ≤ k) × (1 ≤ d)
+InRange (asks.Drill n) = (1 ≤ n) × (n ≤ 50000)
+InRange _ = Unit {0}

@@ -22,3 +22,20 @@ carry_schedule-requires g c =
 
 pub returns-in-Schedule : goal.returns-in-Schedule
 returns-in-Schedule g c = rw c.in-Schedule.is (rw c.as_bytes-in-Schedule.ensures at c.carry_schedule.ensures)
+
+pub carry_drill-requires : goal.carry_drill-requires
+carry_drill-requires g c =
+    let range = rw c.in-Drill.is at c.requires.range in
+    record { «open» = c.requires.«open»; some = range.0; most = range.1 }
+
+pub returns-in-Drill : goal.returns-in-Drill
+returns-in-Drill g c = rw c.in-Drill.is c.carry_drill.ensures
+
+pub returns-in-ToOpen : goal.returns-in-ToOpen
+returns-in-ToOpen g c = rw c.in-ToOpen.is (rw c.as_bytes-in-ToOpen.ensures at c.carry_open.ensures)
+
+pub returns-in-FromOpen : goal.returns-in-FromOpen
+returns-in-FromOpen g c = rw c.in-FromOpen.is (rw c.as_bytes-in-FromOpen.ensures at c.carry_reopen.ensures)
+
+pub returns-in-Cancel : goal.returns-in-Cancel
+returns-in-Cancel g c = rw c.in-Cancel.is (rw c.as_bytes-in-Cancel.ensures at c.carry_cancel.ensures)

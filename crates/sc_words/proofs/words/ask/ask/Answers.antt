@@ -1,8 +1,6 @@
-use Rattle.std.proofs.Common.{◌≡◌, ◌∙◌, ap, sym, Some, None, List, ℕ, Option, option_map}
-use Rattle.std.specs.Prelude.{slice_get}
+use Rattle.std.proofs.Common.{◌∙◌, ap, sym, Some, option_map}
 use Rattle.std.proofs.lemmas.Result.{IfOk-weaker}
 use Rattle.clap.specs.Matches.{found_of}
-use Rattle.sc_words.specs.Words.{asked_of, operands_of}
 use Rattle.sc_words.proofs.WordsAsked.{asked_none, asked_some, values_same}
 use Rattle.sc_words.proofs.words.ask.ask.Goals as goal
 

@@ -1,4 +1,4 @@
-use Rattle.std.proofs.Common.{◌≡◌, ◌∙◌, ap, map, take}
+use Rattle.std.proofs.Common.{◌∙◌, ap, map}
 use Rattle.clap.specs.Simple.{app_of, new_rule, with_rule}
 use Rattle.std.proofs.lemmas.List.{take_all}
 use Rattle.sc_words.specs.WordsCommands.{with_rules}

@@ -1,4 +1,4 @@
-use Rattle.std.proofs.Common.{◌≡◌, ◌∙◌, ap, ap₂, map, take}
+use Rattle.std.proofs.Common.{◌∙◌, ap, ap₂}
 use Rattle.clap.specs.Simple.{app_of, with_rule}
 use Rattle.sc_words.specs.WordsCommands.{named_rule, option_rule}
 use Rattle.sc_words.proofs.WordsRules.{rules_more}
