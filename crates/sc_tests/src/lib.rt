@@ -1,11 +1,7 @@
-//! Tests that cross crates: whole requests over a shelf and sinks in memory, and the faults of sources.
+//! Tests that cross crates: requests over shelves and sinks that fail, and schedules beside those of a plain program.
 #![tactic(auto)]
 
 #[cfg(test)]
-mod flat;
+mod failing;
 #[cfg(test)]
 mod schedules;
-#[cfg(test)]
-mod texts;
-#[cfg(test)]
-mod types;

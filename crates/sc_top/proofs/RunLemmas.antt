@@ -1,15 +1,15 @@
 -- What a request that was carried out says of the run. `r` is how it ended.
 use Rattle.std.proofs.Common.{◌≡◌, ℕ, Bool, false, true, IsTrue, List, Option, Some, None, Result, Ok, Err, refl, sym, ◌∙◌, ap, subst, inl, inr, ◌⊎◌}
-use Rattle.sc_base.specs.Causes.{Stood}
+use Rattle.sc_base.specs.Causes.{Rose, Stood}
 use Rattle.sc_base.specs.Output.{Wrote}
 use Rattle.sc_base.proofs.CauseLemmas.{rose-stood}
 use Rattle.sc_top.specs.Answers.{Says, IsLate, Leaves, OfRequest, Answers, MayBeLate, MayLeave, CarriedOut}
 use Rattle.sc_words.specs.Words.{request}
 use Rattle.sc_top.specs.Carried.{Short, Carried}
 use Rattle.sc_top.specs.Endings.{Output, status_at, is_done}
-use Rattle.sc_top.specs.Fault.{weight_of, weight_status, status_of}
+use Rattle.sc_top.specs.Fault.{weight_of, weight_status, status_of, fault_line, Tells}
 use Rattle.sc_top.specs.Runs.{status_from, Closed, EndsAs}
-use Rattle.sc_top.specs.Stages.{HasOne}
+use Rattle.sc_top.specs.Stages.{HasOne, Why}
 use Rattle.sc_top.specs.Watching.{Watcher}
 use Rattle.sc_top.proofs.StageLemmas.{why_map}
 use Rattle.sc_top.specs.declared.fault.Fault.{Fault}
@@ -127,6 +127,17 @@ run_memory (Err fault.ReadFault) c is = absurd (let impossible : status.ReadFail
 run_memory (Err fault.WriteFault) c is = absurd (let impossible : status.WriteFailed ≡ status.Memory = is in cc)
 run_memory (Err fault.Memory) c is = c.fault
 run_memory (Err (fault.Refused refusal)) c is = absurd (no_weight_memory (weight_of refusal.reason) is)
+
+-- a fault is told, and has its cause
+pub run_fault : {F O E : Type 0} {held : F → List ℕ → Option (List ℕ)} {tells_held : F → Bool} {shelf_faults : F → ℕ} {tells : O → Bool} {bytes : O → List ℕ} {is_ended : O → Bool} {faults : O → ℕ} {N : Type 0}
+    {A : (List ℕ → Option (List ℕ)) → Result Output Refusal → Type 0} {Late : Type 0} {Leaves : (List ℕ → Option (List ℕ)) → List ℕ → Type 0} {shelf_old shelf_new : F} {old new : O}
+    {err_tells : E → Bool} {err_bytes : E → List ℕ} {err_ended : E → Bool} {err_faults : E → ℕ} {err_old err_new : E} (r : Result Ending Fault) →
+    Carried held tells_held shelf_faults tells bytes is_ended faults N A Late Leaves shelf_old shelf_new old new r → Closed err_tells err_bytes err_ended err_faults err_old err_new r →
+    is_done (status_from r) ≡ false →
+    (f : Fault) × (status_from r ≡ status_of f) × Tells err_tells err_bytes err_ended err_faults err_old err_new (fault_line f) ×
+    Why N (Rose (shelf_faults shelf_old) (shelf_faults shelf_new)) (Rose (faults old) (faults new)) (Unit {0}) (λ refusal. IsTrue (tells_held shelf_old) → A (held shelf_old) (Err refusal)) f
+run_fault (Ok e) c ends is = absurd (not_both is (ending_done e))
+run_fault (Err f) c ends is = (f, refl, ends.told, why_map f (λ x. x.1) (λ x. x.1) (λ x. x.0) (λ x. tt) (λ r x. x.answer) c.fault)
 
 -- words without a request have no answer
 pub no_answer : (held : List ℕ → Option (List ℕ)) (all : List Watcher) (words : List (List ℕ)) (answer : Result Output Refusal) → request words ≡ None → Answers held all words answer → ⊥

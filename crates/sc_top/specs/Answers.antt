@@ -64,6 +64,7 @@ SummaryOf held file choice times = Then (SourceOf held file choice) (IsSummarize
 -- the schedule of the source under the name, on k regions of d qubits
 abbrev pub PlanOf : (List ℕ → Option (List ℕ)) → List ℕ → Choice → ℕ → ℕ → Bool → Option (List ℕ) → Result Plan Refusal → Type 0
 PlanOf held file choice k d lpfs times = Then (SourceOf held file choice) (IsScheduled k d lpfs (durations times))
+
 -- the list of gates of the source under the name
 abbrev pub ListOf : (List ℕ → Option (List ℕ)) → List ℕ → Choice → Result FlatText Refusal → Type 0
 ListOf held file choice = Then (SourceOf held file choice) (IsListed ones)

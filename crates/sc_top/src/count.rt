@@ -10,8 +10,8 @@ use crate::source::source_of;
 use crate::status::Ending;
 use crate::tallied::{durations, summarized};
 use sc_base::{Shelf, Sink};
-use sc_gate::Times;
 use sc_elab::Choice;
+use sc_gate::Times;
 use std::alloc::Global;
 
 /// Writes the report of the source under a name, by the durations of the request, and ends the sink.

@@ -22,7 +22,6 @@ use crate::expand::carry_expand;
 use crate::fault::{Fault, Reason, plainly};
 use crate::flat::carry_flat;
 use crate::hier::carry_hier;
-use sc_words::{Request, WordsFault, read_words};
 use crate::lowered::carry_open;
 use crate::reopened::carry_reopen;
 use crate::schedule::carry_schedule;
@@ -32,6 +31,7 @@ use crate::verdict::carry_check;
 use crate::watch::Asked;
 use sc_base::{Shelf, Sink, write_all};
 use sc_probe::Probe;
+use sc_words::{Request, WordsFault, read_words};
 use std::alloc::Global;
 use std::rc::RcStr;
 

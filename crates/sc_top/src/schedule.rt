@@ -10,8 +10,8 @@ use crate::source::source_of;
 use crate::status::Ending;
 use crate::tallied::durations;
 use sc_base::{Shelf, Sink};
-use sc_gate::Times;
 use sc_elab::Choice;
+use sc_gate::Times;
 use sc_sched::Plan;
 use std::alloc::Global;
 

@@ -64,7 +64,7 @@ least_one text o n is some = let t = formed (number 1 1000000) text n (is ∙ so
 values_ranged : (value : OptionName → Option (List ℕ)) (v : Values) → values_by value ≡ Some v → AreRanged v
 values_ranged value v is =
     by (in_form (number 0 18446744073709551615) (value name.Limit)) (in_form (number 1 1000000) (value name.Regions)) (in_form (number 1 1000000) (value name.Width)) (in_form is_lpfs (value name.Order))
-        (in_form times_of (value name.Times)) refl refl is
+    (in_form times_of (value name.Times)) refl refl is
   where
     by : (l r w : Option (Option ℕ)) (o : Option (Option Bool)) (t : Option (Option (List ℕ))) → in_form (number 1 1000000) (value name.Regions) ≡ r → in_form (number 1 1000000) (value name.Width) ≡ w
         → option_and_then (λ limit. option_and_then (λ regions. option_and_then (λ width. option_and_then (λ lpfs. option_map (λ times. record { limit = limit; regions = regions; width = width; lpfs = lpfs; times = times }) t) o) w) r) l ≡ Some v

@@ -1,4 +1,4 @@
-//! The words, before they move to the command's crate.
+//! The words of the command line: what they ask for.
 #![tactic(auto)]
 
 mod request;
