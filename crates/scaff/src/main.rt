@@ -4,7 +4,7 @@
 use sc_base::{RealShelf, RealSink};
 use sc_probe::{BurstProbe, KindsProbe, Probe, ReachProbe, WindowProbe};
 use sc_top::{Status, run};
-use std::alloc::{AllocError, Global};
+use std::alloc::Global;
 use std::env;
 use std::io::ErrorKind;
 use std::process::ExitCode;
@@ -24,21 +24,28 @@ fn read_args(rt: &HostRuntime) -> Result<Vec<RcStr>, Status> {
     Ok(words)
 }
 
-/// A new probe of each rule.
-fn new_probes(alloc: Global) -> Result<Vec<Box<dyn Probe>>, AllocError> {
-    let mut probes: Vec<Box<dyn Probe>> = Vec::new(alloc);
-    probes.push(Box::new(alloc, KindsProbe::new())?)?;
-    probes.push(Box::new(alloc, BurstProbe::new())?)?;
-    probes.push(Box::new(alloc, WindowProbe::new())?)?;
-    probes.push(Box::new(alloc, ReachProbe::new())?)?;
-    Ok(probes)
+/// A probe on the heap.
+fn boxed<P: Probe>(alloc: Global, probe: P) -> Result<Box<P>, Status> {
+    Box::new(alloc, probe).map_err(|_| Status::Memory)
 }
 
-/// Carries out the words over the real shelf and sinks.
+/// Carries out the words over the real shelf and sinks, with a new probe of each rule.
 fn serve(rt: HostRuntime) -> Result<Status, Status> {
     let words = read_args(&rt)?;
     let alloc = rt.alloc();
-    let probes = new_probes(alloc).map_err(|_| Status::Memory)?;
+    let mut probes: Vec<Box<dyn Probe>> = Vec::new(alloc);
+    probes
+        .push(boxed(alloc, KindsProbe::new())?)
+        .map_err(|_| Status::Memory)?;
+    probes
+        .push(boxed(alloc, BurstProbe::new())?)
+        .map_err(|_| Status::Memory)?;
+    probes
+        .push(boxed(alloc, WindowProbe::new())?)
+        .map_err(|_| Status::Memory)?;
+    probes
+        .push(boxed(alloc, ReachProbe::new())?)
+        .map_err(|_| Status::Memory)?;
     let mut out = RealSink::new(alloc, rt.stdout()).map_err(|_| Status::Memory)?;
     let mut err = RealSink::new(alloc, rt.stderr()).map_err(|_| Status::Memory)?;
     let mut shelf = RealShelf::new(rt);
