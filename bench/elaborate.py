@@ -36,8 +36,13 @@ def equal_calls():
 
 
 def wide_calls():
-    """A module of 65,535 wires called 1,000 times, in turn with a gate."""
-    return "module g(qbit *q) { H(q[0]); } int main() { qbit q[65535]; for (int i = 0; i < 1000; i++) { g(q); X(q[1]); } }\n"
+    """A module of 65,536 wires called 1,000 times."""
+    return "module g(qbit *q) { H(q[0]); } int main() { qbit q[65536]; for (int i = 0; i < 1000; i++) g(q); }\n"
+
+
+def apart_calls():
+    """The same in turn with a gate, so that each call is an item of its own."""
+    return "module g(qbit *q) { H(q[0]); } int main() { qbit q[65536]; for (int i = 0; i < 1000; i++) { g(q); X(q[1]); } }\n"
 
 
 def recursion():
@@ -46,12 +51,12 @@ def recursion():
 
 
 def million_gates():
-    """A million gates in one body."""
-    return "int main() { qbit q[2]; for (int i = 0; i < 262144; i++) { H(q[0]); CNOT(q[0], q[1]); } }\n"
+    """A million gates in one body, of Toffoli gates that are replaced."""
+    return "int main() { qbit q[3]; for (int i = 0; i < 66700; i++) Toffoli(q[0], q[1], q[2]); }\n"
 
 
 SOURCES = {"deep": (deep, "hier"), "steps": (steps, "hier"), "instances": (instances, "count"), "equal_calls": (equal_calls, "hier"),
-           "wide_calls": (wide_calls, "count"), "recursion": (recursion, "count"), "million_gates": (million_gates, "flat")}
+           "wide_calls": (wide_calls, "count"), "apart_calls": (apart_calls, "count"), "recursion": (recursion, "count"), "million_gates": (million_gates, "flat")}
 
 
 def measure(program, mode, source):
