@@ -9,7 +9,7 @@ Each file (all of answers/ where none is named) is a list of cases, one line at 
     +  SOURCE             `count -` accepts the source
     ?N FAULT | SOURCE     `count -` refuses the source with status N and the line `scaff: FAULT`
     == TITLE              a case of its own begins
-    @ NAME                a file of the case begins
+    @ NAME [PATH]         a file of the case begins, empty or as the file of the repository
     | TEXT                a line of that file
     / TEXT                a text of that file without a line feed behind it
     * N TEXT              a text of that file N times, without a line feed
@@ -67,8 +67,11 @@ def cases_of(path):
             elif mark == "@":
                 if not case.words and name is None:
                     case.files = {}
-                name = text
+                name, _, copied = text.partition(" ")
                 case.files[name] = b""
+                if copied:
+                    with open(os.path.join(TOP, copied), "rb") as file:
+                        case.files[name] = file.read()
             elif mark == "|":
                 case.files[name] += text.encode() + b"\n"
             elif mark == "/":
