@@ -9,7 +9,8 @@ Each file (all of answers/ where none is named) is a list of cases, one line at 
     +  SOURCE             `count -` accepts the source
     ?N FAULT | SOURCE     `count -` refuses the source with status N and the line `scaff: FAULT`
     == TITLE              a case of its own begins
-    @ NAME [PATH]         a file of the case begins, empty or as the file of the repository
+    @ NAME                a file of the case begins
+    < PATH                what the repository has under this path
     | TEXT                a line of that file
     / TEXT                a text of that file without a line feed behind it
     * N TEXT              a text of that file N times, without a line feed
@@ -67,11 +68,11 @@ def cases_of(path):
             elif mark == "@":
                 if not case.words and name is None:
                     case.files = {}
-                name, _, copied = text.partition(" ")
+                name = text
                 case.files[name] = b""
-                if copied:
-                    with open(os.path.join(TOP, copied), "rb") as file:
-                        case.files[name] = file.read()
+            elif mark == "<":
+                with open(os.path.join(TOP, text), "rb") as file:
+                    case.files[name] += file.read()
             elif mark == "|":
                 case.files[name] += text.encode() + b"\n"
             elif mark == "/":
