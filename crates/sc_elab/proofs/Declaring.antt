@@ -69,9 +69,3 @@ make_runs choice c name n f g some room body numbers steps names =
     runs_from choice (make_wires c name (pos n) (view f)) (Done (Fresh c n ∷ []) (with_fresh c name.text n (view f))) f g
     (make_is c name n (view f) some room)
     (runs_fresh choice c n (with_fresh c name.text n (view f)) f g (ap (λ (b : Contents). written b.items) body ∙ written_more f.body.items (item.Fresh c n) refl) (view_more c name.text n f g body numbers steps names))
-
-pub make_wide : (choice : Choice) (c : Class) (name : Name) (n : ℕ) (f : Frame) → 1 ≤ n → 65536 < both (wires_of f.body) + n
-    → IsRefused choice (make_wires c name (pos n) (view f)) f (TooWide name.place)
-make_wide choice c name n f some wide =
-    refused_from choice (make_wires c name (pos n) (view f)) (Stopped [] (TooWide name.place)) f (TooWide name.place)
-    (wide_is c name n (view f) some wide) (refused_at choice (TooWide name.place) f)

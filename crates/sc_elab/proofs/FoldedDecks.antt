@@ -101,16 +101,7 @@ pub written_fit : (deck : List Module) (items : List Item) → CallsFit deck ite
 written_fit deck [] h = tt
 written_fit deck (i ∷ items) h = calls_append deck (written_out i) (written items) (out_fit deck i h.0) (written_fit deck items h.1)
 
-pub fit_written : (deck : List Module) (items : List Item) → IsFolded items → CallsFit deck (written items) → CallsFit deck items
-fit_written deck items is h = (stands_for items is).call deck h
-
 -- ---- heights and callers
-
-pub height_written : (heights : List ℕ) (items : List Item) → IsFolded items → greatest_called heights items ≡ greatest_called heights (written items)
-height_written heights items is = (stands_for items is).called heights
 
 pub heights_written : (deck : List Module) → AreFolded deck → heights_of deck ≡ heights_of (written_modules deck)
 heights_written deck are = ap heights_of are ∙ heights_of-folded (written_modules deck)
-
-pub called_written : (deck : List Module) (k : ℕ) → AreFolded deck → is_called deck k ≡ is_called (written_modules deck) k
-called_written deck k are = ap (λ (ms : List Module). is_called ms k) are ∙ is_called-folded (written_modules deck) k

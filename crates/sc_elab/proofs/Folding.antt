@@ -93,9 +93,6 @@ folds_fresh items c n f = subst (FoldsIn items (item.Fresh c n ∷ [])) (fresh_b
 pub stands_for : (items : List Item) → IsFolded items → StandsFor items (written items)
 stands_for items f = subst (λ (l : List Item). StandsFor l (written items)) (sym f) (folded-stands (written items))
 
-pub wires_written : (before : Numbers) (items : List Item) → IsFolded items → after_items before items ≡ after_items before (written items)
-wires_written before items f = (stands_for items f).after before
-
 -- ---- the turns of the last item
 
 record Last (n : ℕ) (items : List Item) : Type 0 where

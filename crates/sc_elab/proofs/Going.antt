@@ -37,13 +37,6 @@ goes_stop choice o p q go f g fault along is refused ws rest deck keys few =
     ∙ ap (ran choice (made ws (written g.body.items) rest deck keys)) is
     ∙ ran_stop choice (made ws (written g.body.items) rest deck keys) q fault go (refused ws rest deck keys few)
 
--- nothing is left
-pub goes_end : (choice : Choice) (o p : Outcome State) (f g : Frame) → Goes choice o f p g → p ≡ Done [] (view g) → Runs choice o f g
-goes_end choice o p f g along is ws rest deck keys few =
-    along ws rest deck keys few
-    ∙ ap (ran choice (made ws (written g.body.items) rest deck keys)) is
-    ∙ ran_done choice (made ws (written g.body.items) rest deck keys) (view g) few
-
 -- what is left is a fault
 pub goes_fault : (choice : Choice) (o p : Outcome State) (f g : Frame) (fault : ElabFault) → Goes choice o f p g → p ≡ Stopped [] fault → IsRefused choice o f fault
 goes_fault choice o p f g fault along is ws rest deck keys few =
@@ -77,8 +70,3 @@ runs_from choice o p f g e runs ws rest deck keys few = ap (ran choice (made ws 
 
 pub refused_from : (choice : Choice) (o p : Outcome State) (f : Frame) (fault : ElabFault) → o ≡ p → IsRefused choice p f fault → IsRefused choice o f fault
 refused_from choice o p f fault e refused ws rest deck keys few = ap (ran choice (made ws (written f.body.items) rest deck keys)) e ∙ refused ws rest deck keys few
-
-pub runs_then : (choice : Choice) (o : Outcome State) (go : State → Outcome State) (f g h : Frame) → Runs choice o f g → Runs choice (go (view g)) g h → Runs choice (then_do o go) f h
-runs_then choice o go f g h one two ws rest deck keys few =
-    ran_next choice (made ws (written f.body.items) rest deck keys) (made ws (written g.body.items) rest deck keys) o (view g) go (one ws rest deck keys few)
-    ∙ two ws rest deck keys few

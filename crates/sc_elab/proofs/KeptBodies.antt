@@ -33,7 +33,7 @@ use Rattle.sc_meaning.proofs.Heights.{tallest, Heights, seen_along}
 use Rattle.sc_meaning.proofs.Kept.{held_added}
 use Rattle.sc_meaning.proofs.Known.{pushed, Grows, grows_none, grows_entry, in_grows, stands, last_entry}
 use Rattle.sc_meaning.proofs.Last.{each_weaker, not_inside, not_added}
-use Rattle.sc_meaning.proofs.Leasts.{HeightsStand, heights_known, length_heights}
+use Rattle.sc_meaning.proofs.Leasts.{HeightsStand, heights_known, index_end, length_heights}
 use Rattle.sc_meaning.proofs.Ran.{many, few_by}
 use Rattle.sc_meaning.proofs.Sharing.{Shares, body_shares}
 use Rattle.sc_meaning.proofs.Top.{make_keys}
@@ -97,10 +97,6 @@ least_held : (program : Program) (deck : List Module) (keys : List Key) → AreH
 least_held program deck keys held i m at = let h = held i m at in record { under = h.under; is = h.is; ends = h.ends; short = h.short }
 
 -- ---- a deck with one body more
-
-index_end : (ns : List ℕ) (n : ℕ) → slice_index (ns ++ n ∷ []) (length ns) ≡ n
-index_end [] n = refl
-index_end (m ∷ ns) n = index_end ns n
 
 height_before : (deck : List Module) (m : Module) (i : ℕ) → i < length deck → slice_index (heights_of (deck ++ m ∷ [])) i ≡ slice_index (heights_of deck) i
 height_before deck m i l =

@@ -90,7 +90,7 @@ length_from done (m ∷ modules) =
 pub length_heights : (deck : List Module) → length (heights_of deck) ≡ length deck
 length_heights deck = let h = length_from [] deck in omega arith
 
-index_end : (ns : List ℕ) (n : ℕ) → slice_index (ns ++ n ∷ []) (length ns) ≡ n
+pub index_end : (ns : List ℕ) (n : ℕ) → slice_index (ns ++ n ∷ []) (length ns) ≡ n
 index_end [] n = refl
 index_end (m ∷ ns) n = index_end ns n
 
