@@ -109,7 +109,7 @@ tree_alike choice a b alike _ _ (goes t r (same, typed) x) (goes u s (also, othe
 one_source : (choice : Choice) (text : List ℕ) → HasOne (IsSource choice text)
 one_source choice text = then_one (one_tokens text) (λ tokens lexed. then_one_like (tree_like text tokens) (λ a b here there alike r s x y. tree_alike choice a b alike r s x y))
 
-one_source_of : (held : List ℕ → Option (List ℕ)) (file : List ℕ) (choice : Choice) → HasOne (SourceOf held file choice)
+pub one_source_of : (held : List ℕ → Option (List ℕ)) (file : List ℕ) (choice : Choice) → HasOne (SourceOf held file choice)
 one_source_of held file choice = then_one (one_text held most_source_bytes file) (λ text read. one_source choice text)
 
 -- ---- a hierarchical text

@@ -72,40 +72,15 @@ after_others (Apply gate ∷ events) next = after_others events next
 after_others (Return key ∷ events) next = after_others events next
 
 -- the deck unfolds to the gates of the meaning, and has the fresh wires of the run
-unfolded_gates : (t : TypedSource) (choice : Choice) → Expands t choice → gates_in (whole (modules_of t choice)) ≡ meaning t choice
+pub unfolded_gates : (t : TypedSource) (choice : Choice) → Expands t choice → gates_in (whole (modules_of t choice)) ≡ meaning t choice
 unfolded_gates t choice expands = ap gates_in (modules_unfold t choice expands) ∙ expands.gates
 
-unfolded_sums : (t : TypedSource) (choice : Choice) → Expands t choice → fresh_in (whole (modules_of t choice)) ≡ fresh_in (events_of (run t))
+pub unfolded_sums : (t : TypedSource) (choice : Choice) → Expands t choice → fresh_in (whole (modules_of t choice)) ≡ fresh_in (events_of (run t))
 unfolded_sums t choice expands =
     ap fresh_in (modules_unfold t choice expands) ∙ after_others (expansion_of_last (instances t choice)) no_wires ∙ ap (after_events no_wires) expands.others
     ∙ sym (after_others (events_of (run t)) no_wires)
 
-unfolded_text : (t : TypedSource) (choice : Choice) → Expands t choice → flat (whole (modules_of t choice)) ≡ meaning_text t choice
+pub unfolded_text : (t : TypedSource) (choice : Choice) → Expands t choice → flat (whole (modules_of t choice)) ≡ meaning_text t choice
 unfolded_text t choice expands =
     ap (λ (n : Numbers). flat_text n.qubits n.cbits (gates_in (whole (modules_of t choice)))) (unfolded_sums t choice expands)
     ∙ ap (flat_text (fresh_in (events_of (run t))).qubits (fresh_in (events_of (run t))).cbits) (unfolded_gates t choice expands)
-
-unwatched : (all : List Watcher) (modules : List Module) → watched (asked_of none_asked all) modules ≡ done (flat (whole modules))
-unwatched all modules = ap (λ (ws : List Watcher). watched ws modules) (none_watch all) ∙ ap done (append-nil (flat (whole modules)))
-
-abbrev written : Output → Result Output Refusal
-written output = Ok output
-
-pub headline : Headline
-headline = record {
-  texts = λ held all file text t holds within accepted choice.
-      let expands = all_expand t accepted.typed.main accepted.typed.checked accepted.runs choice in
-      let same = unfolded_text t choice expands in
-      let here = goes text _ (holds, within) (accepted_source text t choice accepted) in
-      record {
-        writes_hier = goes (modules_of t choice) _ here refl;
-        gates = unfolded_gates t choice expands;
-        unfolds = same;
-        writes_flat = λ limit fits. goes (modules_of t choice) _ (goes (modules_of t choice) _ here (writable limit (modules_of t choice) fits))
-            (ap written (sym (unwatched all (modules_of t choice) ∙ ap done same)));
-        expands = λ texts name limit held_there short deck sound fits.
-            goes (modules_of t choice) _ (goes _ _ (held_there, short) (goes (modules_of t choice) _ (sound_text_read (modules_of t choice) deck sound) (writable limit (modules_of t choice) fits)))
-            (ap (λ (x : List ℕ). written (done x)) (sym same));
-      };
-  calls = calls_xor;
-}
