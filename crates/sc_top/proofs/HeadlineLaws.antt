@@ -1,15 +1,12 @@
 -- The headline: what the texts of an accepted source are.
-use Rattle.std.proofs.Common.{◌≡◌, ℕ, ◌<◌, ◌≤◌, ◌^◌, ◌⊎◌, max, Bool, List, [], ◌∷◌, ◌++◌, map, length, Option, Some, Result, Ok, Err, refl, sym, ◌∙◌, ap, subst, append-nil, inl, inr, arith}
-use Rattle.std.specs.Prelude.{is_some}
+use Rattle.std.proofs.Common.{◌≡◌, ℕ, ◌<◌, ◌≤◌, ◌^◌, max, Bool, List, [], ◌∷◌, ◌++◌, map, length, Option, Result, Ok, Err, refl, sym, ◌∙◌, ap, subst, append-nil, inl, inr, arith}
 use Rattle.std.proofs.lemmas.Bool.{cases_lt}
 use Rattle.std.proofs.lemmas.List.{length-map}
-use Rattle.sc_base.specs.Limits.{most_gates, most_text_bytes}
+use Rattle.sc_base.specs.Limits.{most_gates}
 use Rattle.sc_check.proofs.Breaches.{legal_to}
-use Rattle.sc_check.specs.Finding.{finding}
 use Rattle.sc_check.specs.declared.finding.Finding.{Finding}
 use Rattle.sc_check.specs.declared.finding.Finding.TheVariants.{Legal}
 use Rattle.sc_count.specs.Counting.{kinds_of, peak_of, lives, live, opened}
-use Rattle.sc_count.specs.Limits.{IsWithin}
 use Rattle.sc_deck.specs.Decks.{IsDeck, IsWhole}
 use Rattle.sc_deck.specs.Events.{Event, Enter, Fresh, Apply, Return, flat, gates_in, fresh_in}
 use Rattle.sc_deck.specs.Modules.{Module, greatest}
@@ -26,39 +23,37 @@ use Rattle.sc_meaning.specs.Meaning.{run, instances, meaning, Expands, expansion
 use Rattle.sc_meaning.specs.Outcomes.{events_of}
 use Rattle.sc_read.proofs.FlatLines.{written_is_read}
 use Rattle.sc_read.proofs.HierTexts.{sound_text_read}
-use Rattle.sc_read.specs.FlatReads.{IsFlatText}
 use Rattle.sc_read.specs.declared.flat.FlatText.{FlatText}
 use Rattle.sc_sched.proofs.StepLaws.{have_text}
-use Rattle.sc_sched.specs.PrioritySchedules.{IsPrioritySchedule, shop_of_gates}
-use Rattle.sc_sched.specs.Text.{IsSize, HasText, IsTextOf, schedule_text}
+use Rattle.sc_sched.specs.PrioritySchedules.{IsPrioritySchedule}
+use Rattle.sc_sched.specs.Text.{IsSize, IsTextOf, schedule_text}
 use Rattle.sc_sched.specs.declared.order.Rank.{Rank}
 use Rattle.sc_sched.specs.declared.plan.Plan.{Plan}
 use Rattle.sc_types.specs.Typing.{TypedSource}
 use Rattle.sc_top.specs.Answers.{SourceOf, Says, watched, done}
 use Rattle.sc_top.specs.Endings.{Output}
-use Rattle.sc_top.specs.Expansions.{whole, ones, counts_by, FitsFlat}
-use Rattle.sc_top.specs.Headline.{meaning_list, meaning_text, AreNumbersOf, HasTexts, Headline}
-use Rattle.sc_top.specs.Listed.{list_of, IsListed, IsListable}
+use Rattle.sc_top.specs.Expansions.{whole, ones}
+use Rattle.sc_top.specs.Headline.{meaning_list, meaning_text, AreNumbersOf, Headline}
+use Rattle.sc_top.specs.Listed.{list_of, IsListable}
 use Rattle.sc_top.specs.Lowered.{lowered_text}
-use Rattle.sc_top.specs.Reports.{IsSummaryOf, report_text}
-use Rattle.sc_top.specs.Scheduled.{order_by, IsPlanOf, IsPlanned, IsScheduled, IsSchedulable}
+use Rattle.sc_top.specs.Reports.{IsSummaryOf}
+use Rattle.sc_top.specs.Scheduled.{order_by, IsPlanOf, IsScheduled}
 use Rattle.sc_top.specs.Shortened.{shortened_text}
-use Rattle.sc_top.specs.Sources.{modules_of, IsAcceptedAs}
-use Rattle.sc_top.specs.Stages.{Then, stops, goes}
+use Rattle.sc_top.specs.Sources.{modules_of}
+use Rattle.sc_top.specs.Stages.{goes}
 use Rattle.sc_top.specs.Tallied.{durations, IsSummarized}
-use Rattle.sc_top.specs.Verdicts.{IsVerdict, judged}
+use Rattle.sc_top.specs.Verdicts.{IsVerdict}
 use Rattle.sc_top.specs.Watching.{Watcher, asked_of, probe_lines}
 use Rattle.sc_top.specs.declared.fault.Refusal.{Refusal}
 use Rattle.sc_top.specs.declared.report.Summary.{Summary}
-use Rattle.sc_top.specs.declared.watch.Asked.{Asked}
-use Rattle.sc_words.specs.declared.Request.TheVariants.{Flat, Count, Schedule, Check, ToOpen, Cancel}
+use Rattle.sc_words.specs.declared.Request.TheVariants.{Schedule}
 use Rattle.sc_top.proofs.ListedGates.{listed_gates_stand}
 use Rattle.sc_top.proofs.ListLemmas.{has_list}
 use Rattle.sc_top.proofs.ModeLemmas.{has_summary, has_plan}
 use Rattle.sc_top.proofs.OneAnswer.{one_source_of}
 use Rattle.sc_top.proofs.OtherLemmas.{has_shortened}
 use Rattle.sc_top.proofs.SourceLaws.{accepted_source, writable, unfolded_gates, unfolded_sums, unfolded_text, modules_unfold}
-use Rattle.sc_top.proofs.StageLemmas.{given, failed, same_value}
+use Rattle.sc_top.proofs.StageLemmas.{given, same_value}
 use Rattle.sc_top.proofs.WatchLemmas.{none_asked, none_watch}
 
 abbrev written : Output → Result Output Refusal
@@ -101,7 +96,7 @@ numbers_are t choice times s expands is =
     let gates = unfolded_gates t choice expands in
     let sums = unfolded_sums t choice expands in
     record {
-      instances = is.instances ∙ length-map _ (instances t choice);
+      instances = is.instances ∙ length-map (instances t choice) _;
       qubits = (λ i. (is.counts i).qubits) ∙ ap (λ (n : Numbers). n.qubits) sums;
       cbits = (λ i. (is.counts i).cbits) ∙ ap (λ (n : Numbers). n.cbits) sums;
       peak = (λ i. (is.counts i).peak) ∙ peak_is t choice expands;
@@ -169,7 +164,7 @@ found_legal k d lpfs times modules plan deck is_whole many wide scheduled =
     (goes plan _ (plan_text k d (order_by lpfs) times gates plan fits.gates many wide is)
     (ap (given Finding) (sym (legal_to gates plan (own_schedule k d (order_by lpfs) times gates plan is).legal))))
 
-text_of : Result Output Refusal → List ℕ
+abbrev text_of : Result Output Refusal → List ℕ
 text_of (Ok output) = output.text
 text_of (Err refusal) = []
 

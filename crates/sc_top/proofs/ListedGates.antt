@@ -1,5 +1,5 @@
 -- The gates that a whole deck unfolds to may stand in a flat text: their wires are there, and their angles in range.
-use Rattle.std.proofs.Common.{◌≡◌, ℕ, zero, suc, ◌-◌, ◌<◌, ◌^◌, ◌≤◌, List, [], ◌∷◌, ◌++◌, map, length, Option, None, Some, FitsSigned, refl, arith}
+use Rattle.std.proofs.Common.{◌≡◌, ℕ, zero, suc, ◌-◌, ◌<◌, ◌^◌, List, [], ◌∷◌, ◌++◌, map, length, Option, None, Some, FitsSigned, refl, arith}
 use Rattle.std.specs.Prelude.{slice_get, IsSomeAnd}
 use Rattle.std.specs.Int.{w64}
 use Rattle.std.specs.List.{AllByRecursion}
@@ -22,7 +22,7 @@ use Rattle.sc_deck.specs.Items.{ItemInRange}
 use Rattle.sc_deck.specs.Keys.{param_classes, params_of}
 use Rattle.sc_deck.specs.Modules.{Module, body_of}
 use Rattle.sc_deck.specs.Placing.{GatesOn}
-use Rattle.sc_deck.specs.Unfolding.{Unfolding, placed, places_with, repeated, unfolding_at, unfold_item, unfold_items, unfold_module, unfold_on, numbered, expansion, gates_of}
+use Rattle.sc_deck.specs.Unfolding.{Unfolding, placed, places_with, repeated, unfolding_at, unfold_item, unfold_items, unfold_module, unfold_on, numbered, expansion}
 use Rattle.sc_deck.proofs.EachUnfolding.{Each, each_unfolding}
 use Rattle.sc_deck.proofs.FormedLaws.{gates_of-formed}
 use Rattle.sc_deck.proofs.WireLaws.{gates_of-below}

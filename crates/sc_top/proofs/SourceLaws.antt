@@ -1,16 +1,13 @@
 -- The deck of a source: what a checked source keeps, and what its deck unfolds to.
-use Rattle.std.proofs.Common.{◌≡◌, ℕ, List, [], ◌∷◌, map, Option, Some, None, Result, Ok, refl, sym, ◌∙◌, ap, append-nil}
+use Rattle.std.proofs.Common.{◌≡◌, ℕ, List, [], ◌∷◌, map, Option, Some, None, Ok, refl, sym, ◌∙◌, ap}
 use Rattle.sc_deck.specs.Events.{Event, Enter, Fresh, Apply, Return, after_events, gates_in, fresh_in, flat}
 use Rattle.sc_deck.specs.Modules.{Module}
 use Rattle.sc_deck.specs.Turns.{folded_modules}
 use Rattle.sc_gate.specs.Lines.{flat_text}
 use Rattle.sc_gate.specs.Numbers.{Numbers, with_more, no_wires}
-use Rattle.sc_meaning.proofs.ClassicalLaws.{calls_xor}
-use Rattle.sc_meaning.proofs.Expansion.{all_expand}
 use Rattle.sc_meaning.specs.declared.choice.Choice.{Choice}
 use Rattle.sc_meaning.specs.Meaning.{run, instances, meaning, Expands, expansion_of_last, other_events}
 use Rattle.sc_meaning.specs.Outcomes.{events_of}
-use Rattle.sc_read.proofs.HierTexts.{sound_text_read}
 use Rattle.sc_syntax.specs.Alike.{pure_part}
 use Rattle.sc_syntax.specs.Formed.{IsFormedSource}
 use Rattle.sc_syntax.specs.declared.Part.{Part}
@@ -18,22 +15,17 @@ use Rattle.sc_syntax.specs.declared.Part.TheVariants as part
 use Rattle.sc_types.specs.Accepted.{Taken, IsAcceptedPart, AreAccepted, IsAccepted}
 use Rattle.sc_types.specs.Typing.{TypedSource, IsTyped, AreTyped, IsWellTyped, main_at}
 use Rattle.sc_word.specs.Typed.{TypedWords}
-use Rattle.sc_top.specs.Answers.{watched, done}
-use Rattle.sc_top.specs.Endings.{Output}
 use Rattle.sc_top.specs.Expansions.{whole, FitsFlat, IsWritable}
-use Rattle.sc_top.specs.Headline.{meaning_text, Headline}
+use Rattle.sc_top.specs.Headline.{meaning_text}
 use Rattle.sc_top.specs.Sources.{modules_of, IsCheckedSource, IsSource, IsAcceptedAs}
 use Rattle.sc_top.specs.Stages.{goes}
-use Rattle.sc_top.specs.Watching.{Watcher, asked_of}
-use Rattle.sc_top.specs.declared.fault.Refusal.{Refusal}
-use Rattle.sc_top.proofs.WatchLemmas.{none_asked, none_watch}
 
 -- ---- what rests on how the deck is made of the instances
 
 pub modules_alike : (t u : TypedSource) (choice : Choice) → instances t choice ≡ instances u choice → modules_of t choice ≡ modules_of u choice
 modules_alike t u choice same = ap folded_modules same
 
-modules_unfold : (t : TypedSource) (choice : Choice) → Expands t choice → whole (modules_of t choice) ≡ expansion_of_last (instances t choice)
+pub modules_unfold : (t : TypedSource) (choice : Choice) → Expands t choice → whole (modules_of t choice) ≡ expansion_of_last (instances t choice)
 modules_unfold t choice expands = expands.folded
 
 -- ---- a checked source

@@ -1,6 +1,5 @@
 -- What a request is answered.
-use Rattle.std.specs.Prelude.{◌≡◌, ℕ, ◌<◌, ◌≤◌, ◌==◌, ◌&&◌, not, Bool, true, false, List, [], ◌∷◌, ◌++◌, Option, None, Some, Result, Ok, Err, codes, length, is_some, if◌then◌else◌}
-use Rattle.std.specs.Str.{bytes_eq}
+use Rattle.std.specs.Prelude.{◌≡◌, ℕ, ◌<◌, ◌≤◌, Bool, List, [], ◌++◌, Option, None, Some, Result, Ok, Err, length, is_some}
 use Rattle.sc_base.specs.Limits.{most_source_bytes, most_text_bytes}
 use Rattle.sc_count.specs.Limits.{IsWithin}
 use Rattle.sc_check.specs.declared.finding.Finding.{Finding}
