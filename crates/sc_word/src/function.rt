@@ -1,6 +1,5 @@
 //! Typed functions.
-ghost use Rattle.std.specs.Prelude.{◌≡◌, ◌≢◌, ◌≤◌, ◌<◌, ◌+◌, ◌^◌, [], ◌∷◌, ◌++◌, map, length, slice_get, Some, None, OnOk, IfOk, IfErr, sum_by};
-ghost use Rattle.std.specs.Option.{option_copied};
+ghost use Rattle.std.specs.Prelude.{◌≡◌, ◌≢◌, ◌≤◌, ◌<◌, ◌+◌, ◌^◌, [], ◌∷◌, ◌++◌, map, length, Some, None, OnOk, IfOk, IfErr, sum_by};
 ghost use Rattle.std.specs.Result.{result_err};
 ghost use Rattle.sc_syntax.specs.FormedWords.{IsFormedWordFn};
 ghost use Rattle.sc_syntax.specs.Alike.{pure_word_expr, pure_bind};
@@ -9,11 +8,9 @@ ghost use Rattle.sc_word.specs.Words.{widths_of, IsWidth, AreWidths};
 ghost use Rattle.sc_word.specs.Forms.{amount as stated, form};
 ghost use Rattle.sc_word.specs.Checks.{first_fault, in_bounds, no_literal, result_fits, param_word, checks_params, fault};
 ghost use Rattle.sc_word.specs.Typed.{TypesFn, TypesBinds, AreDeclared};
-ghost use Rattle.sc_word.specs.Fits.{IsTypedFn};
-ghost use Rattle.sc_word.specs.Functions.{typed_words};
 ghost use Rattle.sc_word.specs.Operands.{IsScope, Bound, Returned, used, or_else, fault_expr, fault_binds};
 
-use crate::operand::{Operand, form_of, with_width};
+use crate::operand::{form_of, with_width};
 use crate::rules::{amount, in_bounds, no_literal, own_width, result_fits};
 use crate::scratch::scratch_of;
 use crate::tree::{TypedExpr, WordFault};
@@ -40,21 +37,12 @@ struct Declared {
     widths: Vec<u32>,
 }
 
-fn push_width(widths: &mut Vec<u32>, width: u32) -> Result<(), WordFault>
-    ensures ok { OnOk result (widths.new.items ≡ widths.old.items ++ width ∷ []) }
+/// Puts an item behind the others.
+fn append<T: Drop>(items: &mut Vec<T>, item: T) -> Result<(), WordFault>
+    ensures ok { OnOk result (items.new.items ≡ items.old.items ++ item ∷ []) }
     ensures err { IfErr result (λ f. f ≡ WordFault.Memory) }
 {
-    match widths.push(width) {
-        Ok(()) => Ok(()),
-        Err(_) => Err(WordFault::Memory),
-    }
-}
-
-fn push_word(words: &mut Vec<TypedExpr>, word: TypedExpr) -> Result<(), WordFault>
-    ensures ok { OnOk result (words.new.items ≡ words.old.items ++ word ∷ []) }
-    ensures err { IfErr result (λ f. f ≡ WordFault.Memory) }
-{
-    match words.push(word) {
+    match items.push(item) {
         Ok(()) => Ok(()),
         Err(_) => Err(WordFault::Memory),
     }
@@ -74,7 +62,7 @@ fn declare_params(alloc: Global, params: &[WordParam]) -> Result<Declared, WordF
         words.is_new(&param.name)?;
         let width = stated_width(param.width)?;
         words.push(alloc, &param.name.text, width)?;
-        push_width(&mut widths, width)?;
+        append(&mut widths, width)?;
     }
     Ok(Declared { words, widths })
 }
@@ -136,7 +124,7 @@ fn type_body(
         let word = bound(alloc, &known, &bind.value)?;
         known.is_new(&bind.name)?;
         known.push(alloc, &bind.name.text, word.width)?;
-        push_word(&mut typed, word)?;
+        append(&mut typed, word)?;
     }
     let word = returned(alloc, &known, result_word, width)?;
     Ok(Body {

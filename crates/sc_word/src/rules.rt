@@ -2,7 +2,7 @@
 ghost use Rattle.std.specs.Prelude.{◌≡◌, [], ◌∷◌, map};
 ghost use Rattle.std.specs.Result.{result_err};
 ghost use Rattle.sc_word.specs.Forms.{amount, shared};
-ghost use Rattle.sc_word.specs.Checks.{first_fault, is_known, is_new, width_rule, in_bounds, no_literal, literal_fits, meet, op_fits, bare_test, wide_test, shift_fits, ext_checks, low_checks, result_fits};
+ghost use Rattle.sc_word.specs.Checks.{first_fault, width_rule, in_bounds, no_literal, meet, op_fits, bare_test, wide_test, shift_fits, ext_checks, low_checks, result_fits};
 
 use crate::operand::{Form, fits};
 use crate::tree::WordFault;

@@ -1,5 +1,5 @@
 //! The walk of a word expression.
-ghost use Rattle.std.specs.Prelude.{◌≡◌, ◌≢◌, [], ◌∷◌, Some, None, OnOk, IfOk, IfErr};
+ghost use Rattle.std.specs.Prelude.{◌≡◌, ◌≢◌, [], ◌∷◌, Some, None, IfOk, IfErr};
 ghost use Rattle.sc_syntax.specs.Alike.{pure_word};
 ghost use Rattle.sc_word.specs.Words.{number_of};
 ghost use Rattle.sc_word.specs.Checks.{first_fault, is_known};

@@ -18,8 +18,8 @@ loop-bind-preserved c =
     let made = c.loop-bind.typed.items in
     let so_far : GoesOn from all made ws (b ∷ drop (i + 1) all) e w =
     subst (λ (ls : List Bind). GoesOn from all made ws ls e w) (next_bind all i b c.loop-bind-test.true c.bind-item.is) c.loop-bind.invariant in
-    binds_more from ws c.push.new.self all (drop (i + 1) all) b made c.push_word.new.words.items c.in_ok-word.word e w so_far
-    c.in_ok-word.ensures.ok (sym c.in_ok-is_new.ensures) c.in_ok-push.ensures.ok c.in_ok-push_word.ensures.ok
+    binds_more from ws c.push.new.self all (drop (i + 1) all) b made c.append.new.items.items c.in_ok-word.word e w so_far
+    c.in_ok-word.ensures.ok (sym c.in_ok-is_new.ensures) c.in_ok-push.ensures.ok c.in_ok-append.ensures.ok
 
 pub returns-in_err-word-2-clause-err : goal.returns-in_err-word-2-clause-err
 returns-in_err-word-2-clause-err c =
