@@ -5,7 +5,6 @@ use Rattle.sc_deck.proofs.FoldLaws.{IsWhole-folded}
 use Rattle.sc_deck.specs.Decks.{IsDeck}
 use Rattle.sc_deck.specs.Events.{fresh_in}
 use Rattle.sc_deck.specs.Modules.{Module}
-use Rattle.sc_gate.specs.Gates.{IsWellFormed}
 use Rattle.sc_gate.specs.Lines.{flat_text}
 use Rattle.sc_gate.specs.Numbers.{Numbers}
 use Rattle.sc_gate.specs.declared.gate.Gate.{Gate}
