@@ -53,13 +53,13 @@ def read_flat(text):
 
 
 def compare(program, source, options):
-    """What is to be told of a source, and whether all gates are the same."""
+    """What is to be told of a source, and whether no gate differs."""
     with tempfile.TemporaryDirectory() as folder:
         path = Path(folder, "a")
         path.write_text(source, encoding="utf-8")
         opened = subprocess.run([program, "open", *options, path], capture_output=True, text=True, check=False)
         if opened.returncode != 0:
-            return opened.stderr.strip(), True
+            return f"no text, {opened.stderr.strip()}", True
         path.write_text(opened.stdout, encoding="utf-8")
         reopened = subprocess.run([program, "reopen", path], capture_output=True, text=True, check=True)
     lines = opened.stdout.splitlines(keepends=True)
@@ -69,8 +69,10 @@ def compare(program, source, options):
     differ = [i for i, (one, other) in enumerate(zip(theirs, ours)) if one != other]
     told = f"{len(lines)} lines, {len(lines) - len(others)} resets taken out, {len(theirs)} gates"
     if differ:
-        return f"{told}; gate {differ[0]} is {theirs[differ[0]]} and not {ours[differ[0]]}", False
-    return told, len(theirs) == len(ours)
+        return f"{told}: gate {differ[0]} is {theirs[differ[0]]} and not {ours[differ[0]]}", False
+    if len(theirs) != len(ours):
+        return f"{told} and not {len(ours)}", False
+    return f"{told}, each the same", True
 
 
 def main():
@@ -84,7 +86,7 @@ def main():
         for options in ([], ["--keep"]):
             told, same = compare(program, source, options)
             all_same &= same
-            print(f"{' '.join(['open', *options])} of {name}: {told}: {'the same' if same else 'NOT THE SAME'}")
+            print(f"{' '.join(['open', *options])} of {name}: {told}")
     sys.exit(0 if all_same else 1)
 
 
