@@ -111,7 +111,7 @@ summary_is times modules s (goes counted r within is) = is
 
 -- ---- lists
 
-list_is : (t : TypedSource) (choice : Choice) → Expands t choice → list_of (modules_of t choice) ≡ meaning_list t choice
+pub list_is : (t : TypedSource) (choice : Choice) → Expands t choice → list_of (modules_of t choice) ≡ meaning_list t choice
 list_is t choice expands =
     let gates = unfolded_gates t choice expands in
     let sums = unfolded_sums t choice expands in
@@ -127,7 +127,7 @@ planned_list k d lpfs times modules plan (goes list r (goes counted _ within (go
   subst (λ (l : FlatText). IsPlanOf k d (order_by lpfs) times l.gates plan) is planned,
 )
 
-few_wires : (n : Numbers) → (ManyWires n → ⊥) → (n.qubits < 2 ^ 32) × (n.cbits < 2 ^ 32)
+pub few_wires : (n : Numbers) → (ManyWires n → ⊥) → (n.qubits < 2 ^ 32) × (n.cbits < 2 ^ 32)
 few_wires n few = (below n.qubits (λ many. few (inl many)), below n.cbits (λ many. few (inr many)))
   where
     below : (m : ℕ) → (2 ^ 32 ≤ m → ⊥) → m < 2 ^ 32

@@ -11,6 +11,7 @@ mod DrillSizes
 mod ListLemmas
 mod ListedGates
 mod OtherLemmas
+mod ReopenedLaws
 mod RunLemmas
 mod SourceLaws
 mod StageLemmas

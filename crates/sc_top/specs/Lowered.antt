@@ -13,9 +13,13 @@ use Rattle.sc_top.specs.Stages.{Gives}
 use Rattle.sc_top.specs.declared.fault.Refusal.{Refusal}
 use Rattle.sc_top.specs.declared.fault.Reason.TheVariants as reason
 
--- THE OPENQASM TEXT of a list: what its gates are lowered to, over its numbers of wires
+-- the registers and lines of a list: what its gates are lowered to, over its numbers of wires
+abbrev pub lowered_list : FlatText → OpenText
+lowered_list list = lowered list.qubits list.cbits list.gates
+
+-- THE OPENQASM TEXT of a list
 abbrev pub lowered_text : FlatText → List ℕ
-lowered_text list = open_text (lowered list.qubits list.cbits list.gates)
+lowered_text list = open_text (lowered_list list)
 
 -- an OpenQASM text that is not read for this reason
 abbrev pub open_refusal : OpenFault → Option Refusal

@@ -9,6 +9,7 @@ ghost use Rattle.sc_top.specs.Carried.{Carried, Short};
 ghost use Rattle.sc_top.specs.Endings.{Output, status_at, is_done, is_early};
 ghost use Rattle.sc_top.specs.Fault.{status_of, fault_line, Tells};
 ghost use Rattle.sc_top.specs.Headline.{Headline};
+ghost use Rattle.sc_top.specs.Reopened.{AllComeBack};
 ghost use Rattle.sc_top.specs.Runs.{status_from, Closed, EndsAs};
 ghost use Rattle.sc_top.specs.Stages.{Why};
 ghost use Rattle.sc_top.specs.Verdicts.{VerdictsAreExact};
@@ -240,9 +241,10 @@ pub fn run<F: Shelf, O: Sink, E: Sink>(
     ensures one_answer { HasOneAnswer }
     ensures complete { HaveOutputs }
 
-    // The texts of an accepted source agree, and their gates are its meaning; calls of classical functions xor. A verdict is
-    // `legal` exactly where the schedule is.
+    // The texts of an accepted source agree, and their gates are its meaning; calls of classical functions xor. What `open` wrote
+    // comes back. A verdict is `legal` exactly where the schedule is.
     ensures headline { Headline }
+    ensures comes_back { AllComeBack }
     ensures verdicts { VerdictsAreExact }
 {
     let served = serve(alloc, words, probes, shelf, out);
