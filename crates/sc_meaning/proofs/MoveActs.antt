@@ -49,7 +49,7 @@ use Rattle.sc_meaning.proofs.MoveTypes.{ok_then, AllWanted, AllMean, gates_mean,
 use Rattle.sc_meaning.proofs.MoveValues.{moved_state, moved_passed, moved_all, args_moved, wires_moved, HasFirst, prepared_moved, called_moved, measured_moved}
 use Rattle.sc_meaning.proofs.Moving.{entered-append, Moves, moves_none, moves_then, moves_fresh, moves_gate}
 use Rattle.sc_meaning.proofs.Places.{Fine, Ahead, ahead_more, fine_later, there_append, there_fresh, fine_more, placed_fresh}
-use Rattle.sc_meaning.proofs.Scoped.{moved, with_moved, drop_moved, AllHeld, with_held, held_later, drop_held, moved_more, IsWireOf, Suits, suits_scope, suits_left, suits_wires, suits_number}
+use Rattle.sc_meaning.proofs.Scoped.{moved, with_moved, drop_moved, AllHeld, with_held, held_later, drop_held, moved_more, IsWireOf, Suits, suits_scope, suits_left, suits_wires, suits_number, numbers_free}
 
 -- the state of a body whose wires stand at these places, where its names stand for what this stack says
 pub record Sound (stack : Stack) (places : List Wire) (next : Numbers) (s : State) : Type 0 where
@@ -238,7 +238,7 @@ module _ (program : Program) (choice : Choice) (E : Key → List Wire → Number
         n',
         a,
         ap without_scope e ∙ (λ i. record (moved_state (placed p') n' (without_scope s)) { wires = wires i }),
-        record { fine = c.fine; held = drop_held s.next s.wires c.held; suits = suits_left here outer s.wires c.suits },
+        record { fine = c.fine; held = drop_held s.next s.wires c.held; suits = suits_left IsWireOf here outer s.wires c.suits },
       )
   left_by here outer (Stopped l f) (Stopped g h) p n k = k
   left_by here outer (Done l s) (Stopped g h) p n k = absurd k
@@ -247,7 +247,7 @@ module _ (program : Program) (choice : Choice) (E : Key → List Wire → Number
   move_inside : (here : List Known) (outer : Stack) (go go' : State → Outcome State) → AllMove ([] ∷ outer) (here ∷ outer) go go' → AllMove outer outer (inside go) (inside go')
   move_inside here outer go go' h p n s c = record {
     holds = left_by here outer (go (with_scope s)) (go' (with_scope (moved_state (placed p) n s))) p n
-        (h p n (with_scope s) (record { fine = c.fine; held = (tt, c.held); suits = suits_scope outer s.wires c.suits })).holds;
+        (h p n (with_scope s) (record { fine = c.fine; held = (tt, c.held); suits = suits_scope IsWireOf outer s.wires c.suits })).holds;
   }
 
   move_truth : (b : Bool) (stack : Stack) (first first' second second' : State → Outcome State) → AllMove stack stack first first' → AllMove stack stack second second'
@@ -310,7 +310,7 @@ module _ (program : Program) (choice : Choice) (E : Key → List Wire → Number
             fine = fine_more p s.next n c m sound.fine;
             held = with_held (with_more c m s.next) s.wires name.text own (held_later s.next (with_more c m s.next) (ahead_more c m s.next) s.wires sound.held)
                 (there_fresh c m s.next, distinct_span c (number_of c s.next) m);
-            suits = suits_wires here outer s.wires name kd own sound.suits new (is (number_of c s.next));
+            suits = suits_wires IsWireOf here outer s.wires name kd own sound.suits new (is (number_of c s.next));
           },
         );
       }
@@ -352,7 +352,7 @@ module _ (program : Program) (choice : Choice) (E : Key → List Wire → Number
       move_given (with_numbers sort mid ds ∷ outer) (start_value s.numbers sort d.value)
       (λ x. declare_numbers sort ds (with_number d.name.text x s)) (λ x. declare_numbers sort ds (with_number d.name.text x (moved_state (placed p) n s))) p n
       (λ x. move_numbers sort outer mid ds fit.2 p n (with_number d.name.text x s)
-      (record { fine = sound.fine; held = sound.held; suits = suits_number here outer s.wires d.name sort sound.suits fit.1 }))
+      (record { fine = sound.fine; held = sound.held; suits = suits_number IsWireOf numbers_free here outer s.wires d.name sort sound.suits fit.1 }))
 
   -- ---- settings, gates and calls
 

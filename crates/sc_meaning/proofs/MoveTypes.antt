@@ -43,7 +43,7 @@ use Rattle.sc_meaning.specs.Values.{◌>>=◌, wanted, whole_number, there, elem
 use Rattle.sc_meaning.proofs.Distinct.{EachDistinct}
 use Rattle.sc_meaning.proofs.MoveValues.{AllThere, HasFirst}
 use Rattle.sc_meaning.proofs.Places.{there_append, new_append}
-use Rattle.sc_meaning.proofs.Scoped.{AreHeld, AllHeld, named_held, IsKnown, Suits, suits_name}
+use Rattle.sc_meaning.proofs.Scoped.{AreHeld, AllHeld, named_held, IsWireOf, numbers_free, IsKnown, Suits, suits_name}
 
 -- what goes on with a value has that value
 pub ok_then : {A B : Type 0} (r : Result A ElabFault) (go : A → Result B ElabFault) (b : B) → (r >>= go) ≡ Ok b → (a : A) × (r ≡ Ok a) × (go a ≡ Ok b)
@@ -312,7 +312,7 @@ module _ (stack : Stack) (s : State) (own : Numbers) (suited : Suits stack s.wir
   argument_held at (PureNode.pick p1 n1 p2 n2 p3 n3) ws e = let q : [] ≡ ws = cc in subst (AreHeld own) q (tt, tt)
 
   known : (t : List ℕ) → IsKnown (kinds_in stack t) (wires_named s.wires t)
-  known t = suits_name stack s.wires suited t
+  known t = suits_name IsWireOf numbers_free stack s.wires suited t
 
   named_one : (c : Class) (t : List ℕ) (at : Place) (ws : List Wire) → OneOf c (kinds_in stack t) → operand s t at None ≡ Ok ws → map class_of ws ≡ c ∷ []
   named_one c t at ws h e =
