@@ -278,7 +278,7 @@ there_is : (at : Place) (o : Option Wire) (vs : List Wire) → there at o ≡ Ok
 there_is at None vs e = absurd cc
 there_is at (Some w) vs e = let q : w ∷ [] ≡ vs = cc in (w, refl, sym q)
 
-element_is : (at : Place) (ws : List Wire) (i : ℤ) (vs : List Wire) → element at ws i ≡ Ok vs → (k : ℕ) × (w : Wire) × (slice_get ws k ≡ Some w) × (vs ≡ w ∷ [])
+pub element_is : (at : Place) (ws : List Wire) (i : ℤ) (vs : List Wire) → element at ws i ≡ Ok vs → (k : ℕ) × (w : Wire) × (slice_get ws k ≡ Some w) × (vs ≡ w ∷ [])
 element_is at ws (pos i) vs e = let h = there_is at (slice_get ws i) vs e in (i, h.0, h.1, h.2)
 element_is at ws (negsuc i) vs e = absurd cc
 
