@@ -5,7 +5,6 @@ pub mod Distinct
 pub mod Entered
 pub mod Expansion
 pub mod Fitting
-pub mod FoldedTurns
 pub mod Fullness
 pub mod GateCounts
 pub mod GateShapes
@@ -28,9 +27,6 @@ pub mod Places
 pub mod Ran
 pub mod Scoped
 pub mod Sharing
-pub mod SoundActs
-pub mod SoundBodies
-pub mod SoundDecks
 pub mod Spanned
 pub mod Tall
 pub mod Top

@@ -1,4 +1,9 @@
 use Rattle.sc_meaning.proofs.Wholes.{all_whole, all_shallow}
+use Rattle.sc_meaning.proofs.Written.{source_written}
+use Rattle.sc_meaning.proofs.InRange.{params_ranged}
+use Rattle.sc_meaning.proofs.GateShapes.{chosen_sure}
+use Rattle.sc_meaning.proofs.Fullness.{pass_all_full}
+use Rattle.sc_meaning.proofs.GateCounts.{few_items}
 use Rattle.sc_meaning.proofs.laws.instances_are_whole.Goals as goal
 
 pub returns : goal.returns
