@@ -1,5 +1,5 @@
 -- What gates are like: on how many qubits, of which kinds, and that those that stand for a gate fit where it does.
-use Rattle.std.proofs.Common.{◌≡◌, ◌≢◌, inl, inr, ℕ, zero, suc, ◌<◌, ◌≤◌, Bool, true, false, cond, List, [], ◌∷◌, ◌++◌, length, map, Option, Some, None, Result, Ok, Err, FitsSigned, w64, ℤ, pos, refl, sym, ap, ◌∙◌, subst, arith}
+use Rattle.std.proofs.Common.{◌≡◌, ◌≢◌, ◌⊎◌, inl, inr, ℕ, zero, suc, ◌<◌, ◌≤◌, Bool, true, false, cond, List, [], ◌∷◌, ◌++◌, length, map, Option, Some, None, Result, Ok, Err, FitsSigned, w64, ℤ, pos, refl, sym, ap, ◌∙◌, subst, arith}
 use Rattle.std.specs.Prelude.{flat_map, nat_eq, replicate, slice_get}
 use Rattle.std.specs.List.{AllByRecursion}
 use Rattle.std.proofs.lemmas.List.{length-map, length-replicate}
@@ -239,11 +239,11 @@ measured_sure own s g into from h m is bit qubit =
 
 operand_there : (own : Numbers) (ws : List Wire) (w : Wire) → AreThere own ws → member w ws ≡ true → IsThere own w
 operand_there own [] w there m = absurd cc
-operand_there own (x ∷ ws) w there m = by (member_cases x w ws m)
+operand_there own (x ∷ ws) w there m = by (member_cases x w ws m) (operand_there own ws w there.1)
   where
-    by : _ → IsThere own w
-    by (inl e) = subst (IsThere own) e there.0
-    by (inr h) = operand_there own ws w there.1 h
+    by : (x ≡ w) ⊎ (member w ws ≡ true) → (member w ws ≡ true → IsThere own w) → IsThere own w
+    by (inl e) more = subst (IsThere own) e there.0
+    by (inr h) more = more h
 
 operands_there : (own : Numbers) (g : Gate) (ws : List Wire) → AreThere own (operands g) → AllByRecursion (λ w. member w (operands g) ≡ true) ws → AreThere own ws
 operands_there own g [] there h = tt

@@ -44,11 +44,11 @@ Ranged scopes = AllByRecursion ScopeRanged scopes
 
 declared_ranged : (scopes : Scopes) → Ranged scopes → (name : List ℕ) (x : Value) → declared_value scopes name ≡ Some x → IsInRange x
 declared_ranged [] h name x e = absurd cc
-declared_ranged (scope ∷ outer) h name x e = by (get scope name) refl e
+declared_ranged (scope ∷ outer) h name x e = by (get scope name) refl e (declared_ranged outer h.1 name x)
   where
-    by : (o : Option Value) → get scope name ≡ o → option_or o (declared_value outer name) ≡ Some x → IsInRange x
-    by (Some y) is e = h.0 name x (is ∙ e)
-    by None is e = declared_ranged outer h.1 name x e
+    by : (o : Option Value) → get scope name ≡ o → option_or o (declared_value outer name) ≡ Some x → (declared_value outer name ≡ Some x → IsInRange x) → IsInRange x
+    by (Some y) is e more = h.0 name x (is ∙ e)
+    by None is e more = more e
 
 pub known_ranged : (scopes : Scopes) → Ranged scopes → AreInRange (value_of_name scopes)
 known_ranged scopes h name x e = by (declared_value scopes name) refl e
@@ -77,11 +77,11 @@ declare_ranged (scope ∷ outer) name x h small = (insert_ranged scope name x h.
 
 pub set_ranged : (scopes : Scopes) (name : List ℕ) (x : Value) → Ranged scopes → IsInRange x → Ranged (with_set scopes name x)
 set_ranged [] name x h small = tt
-set_ranged (scope ∷ outer) name x h small = by (is_some (get scope name))
+set_ranged (scope ∷ outer) name x h small = by (is_some (get scope name)) (set_ranged outer name x h.1 small)
   where
-    by : (b : Bool) → Ranged (cond b (insert scope name x ∷ outer) (scope ∷ with_set outer name x))
-    by true = (insert_ranged scope name x h.0 small, h.1)
-    by false = (h.0, set_ranged outer name x h.1 small)
+    by : (b : Bool) → Ranged (with_set outer name x) → Ranged (cond b (insert scope name x ∷ outer) (scope ∷ with_set outer name x))
+    by true more = (insert_ranged scope name x h.0 small, h.1)
+    by false more = (h.0, more)
 
 pub drop_ranged : (scopes : Scopes) → Ranged scopes → Ranged (drop 1 scopes)
 drop_ranged [] h = tt

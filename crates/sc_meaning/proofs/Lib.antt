@@ -27,6 +27,7 @@ pub mod Places
 pub mod Ran
 pub mod Scoped
 pub mod Sharing
+pub mod SoundActs
 pub mod Spanned
 pub mod Tall
 pub mod Top

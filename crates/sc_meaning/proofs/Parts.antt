@@ -49,16 +49,17 @@ abbrev pub AllSound : List Module → Type 0
 AllSound deck = (i : ℕ) (m : Module) → slice_get deck i ≡ Some m → IsNameText m.key.name × (length m.items ≤ most_written)
 
 pub record IsSoundDeck (deck : List Module) : Type 0 where
-  pub deck : IsDeck deck
+  pub keeps : IsDeck deck
   pub each : AllSound deck
 
 new_key : (deck : List Module) (key : Key) → number_in_deck deck key ≡ length deck → AllByRecursion (λ m. m.key ≢ key) deck
 new_key [] key e = tt
-new_key (m ∷ deck) key e = by (same_key m.key key) refl e
+new_key (m ∷ deck) key e = by (same_key m.key key) refl e (new_key deck key)
   where
-    by : (b : Bool) → same_key m.key key ≡ b → cond b 0 (suc (number_in_deck deck key)) ≡ suc (length deck) → AllByRecursion (λ n. n.key ≢ key) (m ∷ deck)
-    by true is h = absurd (omega arith)
-    by false is h = ((λ q. true≢false (sym ((same_key_decides m.key key).1 q) ∙ is)), new_key deck key (omega arith))
+    by : (b : Bool) → same_key m.key key ≡ b → cond b 0 (suc (number_in_deck deck key)) ≡ suc (length deck) → (number_in_deck deck key ≡ length deck → AllByRecursion (λ n. n.key ≢ key) deck)
+        → AllByRecursion (λ n. n.key ≢ key) (m ∷ deck)
+    by true is h more = absurd (omega arith)
+    by false is h more = ((λ q. true≢false (sym ((same_key_decides m.key key).1 q) ∙ is)), more (omega arith))
 
 -- a body of a key that may be added
 pub record IsAdded (deck : List Module) (key : Key) (items : List Item) : Type 0 where
@@ -75,7 +76,7 @@ sound_pushed deck key items h a new few =
     let m : Module = record { key = key; items = items } in
     let long = length-append deck (m ∷ []) in
     record {
-      deck = IsDeck-push deck m h.deck (All-from_recursion (λ (n : Module). n.key ≢ key) deck (new_key deck key new)) a.sound.lengths a.sound.args
+      keeps = IsDeck-push deck m h.keeps (All-from_recursion (λ (n : Module). n.key ≢ key) deck (new_key deck key new)) a.sound.lengths a.sound.args
           (record { fits = a.fits; narrow = a.narrow; in_range = All-from_recursion ItemInRange items a.range }) (omega arith) a.calls;
       each = λ i n at. each_at i n at (cases_lt i (length deck));
     }

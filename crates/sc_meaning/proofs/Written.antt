@@ -96,7 +96,7 @@ mutual
   act_written (act.Call c) h = exprs_written c.args h.1.each
   act_written (If' e b p a other) h = (act_written a h.1, held_written other h.2)
   act_written (While' e b p a) h = act_written a h.1
-  act_written (For' start test advance b p a) h = (held_written start h.1, (held_written advance h.4, act_written a h.5))
+  act_written (For' start test advance b p a) h = (held_written start h.1, held_written advance h.4, act_written a h.5)
   act_written (Block' shape row) h = row_written row h.1
   act_written act.Empty h = tt
 

@@ -4,6 +4,8 @@ use Rattle.sc_meaning.proofs.InRange.{params_ranged}
 use Rattle.sc_meaning.proofs.GateShapes.{chosen_sure}
 use Rattle.sc_meaning.proofs.Fullness.{pass_all_full}
 use Rattle.sc_meaning.proofs.GateCounts.{few_items}
+use Rattle.sc_meaning.proofs.Parts.{part_call}
+use Rattle.sc_meaning.proofs.SoundActs.{go_acts}
 use Rattle.sc_meaning.proofs.laws.instances_are_whole.Goals as goal
 
 pub returns : goal.returns
