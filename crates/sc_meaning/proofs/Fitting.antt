@@ -133,7 +133,7 @@ function_there t fit =
     let n : fn_wires t ≡ sum (t.params ++ t.returned.width ∷ []) + fn_scratch t = omega arith in
     subst (λ (k : ℕ). GatesThere (only_qubits k) (gates_of t)) n (gates_there (only_qubits (fn_wires t)) (gates_of t) fit)
 
-function_gates : (taken : Taken) (p : PurePart) (w : Option TypedWords) → IsAcceptedPart taken p w → (name : Name) (f : Function) → of_function name f ≡ definition_of p w
+pub function_gates : (taken : Taken) (p : PurePart) (w : Option TypedWords) → IsAcceptedPart taken p w → (name : Name) (f : Function) → of_function name f ≡ definition_of p w
     → GatesThere (only_qubits (sum f.widths + f.scratch)) f.gates
 function_gates taken (PurePart.of_module n ps body) w fine name f e = absurd cc
 function_gates taken (PurePart.of_words n ps width binds result) None fine name f e = absurd fine

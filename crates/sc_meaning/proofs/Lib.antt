@@ -5,6 +5,7 @@ pub mod Distinct
 pub mod Entered
 pub mod Expansion
 pub mod Fitting
+pub mod FoldedTurns
 pub mod Fullness
 pub mod GateCounts
 pub mod GateShapes
@@ -12,6 +13,8 @@ pub mod Grown
 pub mod Heights
 pub mod InRange
 pub mod Kept
+pub mod KeyCounts
+pub mod KeyNumbers
 pub mod Known
 pub mod Last
 pub mod Leasts
@@ -28,6 +31,7 @@ pub mod Ran
 pub mod Scoped
 pub mod Sharing
 pub mod SoundActs
+pub mod SoundBodies
 pub mod Spanned
 pub mod Tall
 pub mod Top

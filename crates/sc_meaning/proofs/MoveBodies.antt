@@ -89,7 +89,7 @@ drop_wires_held own zero ws held = held
 drop_wires_held own (suc n) [] held = (tt, tt)
 drop_wires_held own (suc n) (w ∷ ws) held = drop_wires_held own n ws (held.0.1, held.1.1)
 
-params_held : (own : Numbers) (ps : List PureParam) (args : List Arg) (ws : List Wire) (scopes : List Wired) → AreHeld own ws → AllHeld own scopes → AllHeld own (wire_params ps args ws scopes)
+pub params_held : (own : Numbers) (ps : List PureParam) (args : List Arg) (ws : List Wire) (scopes : List Wired) → AreHeld own ws → AllHeld own scopes → AllHeld own (wire_params ps args ws scopes)
 params_held own [] args ws scopes held all = all
 params_held own (p ∷ ps) [] ws scopes held all = all
 params_held own (p ∷ ps) (arg.Int n ∷ args) ws scopes held all = params_held own ps args ws scopes held all
@@ -275,6 +275,24 @@ gates_later : (a b : Numbers) → Ahead a b → (gates : List Gate) → GatesThe
 gates_later a b ahead [] there = tt
 gates_later a b ahead (g ∷ gates) there = (there_later a b ahead (operands g) there.0, gates_later a b ahead gates there.1)
 
+-- the gates of a classical function in the numbers of its own body
+pub own_function : (f : Function) (key : Key) → param_classes key ≡ replicate (sum f.widths) Q → GatesThere (only_qubits (sum f.widths + f.scratch)) f.gates
+    → map (λ g. Apply (rename_gate (placed (call_wires f (numbered (param_classes key) no_wires) (params_of key))) g)) f.gates ≡ map Apply f.gates
+own_function f key words there =
+    let m : ℕ = sum f.widths in
+    let k : ℕ = f.scratch in
+    let own : List Wire = numbered (param_classes key) no_wires in
+    let qubits : own ≡ wires_from Q 0 m = own_qubits m key words in
+    let count : number_of Q (params_of key) ≡ m = function_sized f key words in
+    let first : (params_of key).qubits ≡ 0 + m = (let z : 0 + m ≡ m = omega arith in count ∙ sym z) in
+    let all : call_wires f own (params_of key) ≡ wires_from Q 0 (m + k) = (λ i. qubits i ++ wires_from Q (first i) k) ∙ wires_join Q 0 m k in
+    let same : (w : Wire) → IsThere (only_qubits (m + k)) w → placed (call_wires f own (params_of key)) w ≡ w = λ w h. ap (λ (ps : List Wire). placed ps w) all ∙ placed_qubits (m + k) w h in
+    gates_same (placed (call_wires f own (params_of key))) (only_qubits (m + k)) same f.gates there
+
+pub qubits_ahead : (m k : ℕ) (n : Numbers) → number_of Q n ≡ m → Ahead (only_qubits (m + k)) (with_more Q k n)
+qubits_ahead m k n e Q = omega arith
+qubits_ahead m k n e C = omega arith
+
 -- WHAT THE CHECKS GIVE of a program: what a name calls takes what is passed, the bodies of modules are accepted, and the gates of
 -- classical functions are on qubits of their own
 pub record IsFit (program : Program) (taken : Taken) : Type 0 where
@@ -339,13 +357,9 @@ module _ (program : Program) (choice : Choice) (E : Key → List Wire → Number
       let m : ℕ = sum f.widths in
       let k : ℕ = f.scratch in
       let own : List Wire = numbered (param_classes key) no_wires in
-      let qubits : own ≡ wires_from Q 0 m = own_qubits m key words in
       let count : number_of Q (params_of key) ≡ m = function_sized f key words in
-      let first : (params_of key).qubits ≡ 0 + m = (let z : 0 + m ≡ m = omega arith in count ∙ sym z) in
-      let local_places : List Wire = own ++ wires_from Q (params_of key).qubits k in
-      let all : local_places ≡ wires_from Q 0 (m + k) = (λ i. qubits i ++ wires_from Q (first i) k) ∙ wires_join Q 0 m k in
-      let same : (w : Wire) → IsThere (only_qubits (m + k)) w → placed local_places w ≡ w = λ w h. ap (λ (ps : List Wire). placed ps w) all ∙ placed_qubits (m + k) w h in
-      let events : map (λ g. Apply (rename_gate (placed local_places) g)) f.gates ≡ map Apply f.gates = gates_same (placed local_places) (only_qubits (m + k)) same f.gates there in
+      let local_places : List Wire = call_wires f own (params_of key) in
+      let events : map (λ g. Apply (rename_gate (placed local_places) g)) f.gates ≡ map Apply f.gates = own_function f key words there in
       let places : List Wire = wires ++ wires_from Q next.qubits k in
       let inner : Numbers = with_more Q k (params_of key) in
       let fine : Fine places inner (with_more Q k next) =
@@ -364,10 +378,6 @@ module _ (program : Program) (choice : Choice) (E : Key → List Wire → Number
       (cond (nat_le n 65536) (Done (fresh_scratch k ++ map (λ g. Apply (rename_gate (placed places) g)) f.gates) (with_more Q k next)) (Stopped [] (TooWide name.place))) wires next) widths
       (function_if (nat_le (length local_places) 65536) (fresh_scratch k ++ map (λ g. Apply (rename_gate (placed local_places) g)) f.gates)
       (fresh_scratch k ++ map (λ g. Apply (rename_gate (placed places) g)) f.gates) (with_more Q k (params_of key)) (with_more Q k next) (TooWide name.place) wires next places moves)
-    where
-      qubits_ahead : (m k : ℕ) (n : Numbers) → number_of Q n ≡ m → Ahead (only_qubits (m + k)) (with_more Q k n)
-      qubits_ahead m k n e Q = omega arith
-      qubits_ahead m k n e C = omega arith
 
   -- ---- bodies and enterings
 

@@ -25,11 +25,14 @@ use Rattle.sc_deck.proofs.CallLaws.{CallsFit-more}
 use Rattle.sc_deck.proofs.DeckLemmas.{IsDeck-push}
 use Rattle.sc_meaning.specs.declared.choice.Choice.{Choice}
 use Rattle.sc_meaning.specs.Instances.{chosen, entered_keys, with_key, number_in_deck, with_module}
-use Rattle.sc_meaning.specs.Kept.{In, made_of}
+use Rattle.sc_meaning.specs.Kept.{Each, Seen, made_of}
 use Rattle.sc_meaning.specs.Local.{Half, with_half, with_entry, make}
+use Rattle.sc_meaning.proofs.FoldedTurns.{InTurns, all_in_range}
 use Rattle.sc_meaning.proofs.GateShapes.{IsSure, chosen_sure, few_chosen}
 use Rattle.sc_meaning.proofs.Grown.{Extends, extends_none, extends_then, extends_entry}
+use Rattle.sc_meaning.proofs.Heights.{seen_self, seen_along}
 use Rattle.sc_meaning.proofs.Known.{pushed, AddsBy, adds, stands, entry_in}
+use Rattle.sc_meaning.proofs.Last.{each_append, each_weaker}
 use Rattle.sc_meaning.proofs.Leasts.{front_get, end_get}
 use Rattle.sc_meaning.proofs.Moving.{with_half_none, with_half_more, entered-append}
 use Rattle.sc_meaning.proofs.Ran.{make-append}
@@ -46,7 +49,7 @@ pub record IsSoundKey (key : Key) : Type 0 where
   pub args : All ArgInRange key.args
 
 abbrev pub AllSound : List Module → Type 0
-AllSound deck = (i : ℕ) (m : Module) → slice_get deck i ≡ Some m → IsNameText m.key.name × (length m.items ≤ most_written)
+AllSound deck = (i : ℕ) (m : Module) → slice_get deck i ≡ Some m → IsNameText m.key.name × (length m.items ≤ most_written) × AllByRecursion (InTurns 2) m.items
 
 pub record IsSoundDeck (deck : List Module) : Type 0 where
   pub keeps : IsDeck deck
@@ -66,7 +69,7 @@ pub record IsAdded (deck : List Module) (key : Key) (items : List Item) : Type 0
   pub sound : IsSoundKey key
   pub fits : ItemsFit (params_of key) items
   pub narrow : both (after_items (params_of key) items) ≤ 65536
-  pub range : AllByRecursion ItemInRange items
+  pub range : AllByRecursion (InTurns 2) items
   pub calls : CallsFit deck items
   pub short : length items ≤ most_written
 
@@ -77,14 +80,14 @@ sound_pushed deck key items h a new few =
     let long = length-append deck (m ∷ []) in
     record {
       keeps = IsDeck-push deck m h.keeps (All-from_recursion (λ (n : Module). n.key ≢ key) deck (new_key deck key new)) a.sound.lengths a.sound.args
-          (record { fits = a.fits; narrow = a.narrow; in_range = All-from_recursion ItemInRange items a.range }) (omega arith) a.calls;
+          (record { fits = a.fits; narrow = a.narrow; in_range = All-from_recursion ItemInRange items (all_in_range 2 (omega arith) items a.range) }) (omega arith) a.calls;
       each = λ i n at. each_at i n at (cases_lt i (length deck));
     }
   where
-    each_at : (i : ℕ) (n : Module) → slice_get (pushed deck key items) i ≡ Some n → (i < length deck) ⊎ (length deck ≤ i) → IsNameText n.key.name × (length n.items ≤ most_written)
+    each_at : (i : ℕ) (n : Module) → slice_get (pushed deck key items) i ≡ Some n → (i < length deck) ⊎ (length deck ≤ i) → IsNameText n.key.name × (length n.items ≤ most_written) × AllByRecursion (InTurns 2) n.items
     each_at i n at (inl l) = h.each i n (front_get deck (record { key = key; items = items }) i n l at)
     each_at i n at (inr l) =
-        subst (λ (k : Module). IsNameText k.key.name × (length k.items ≤ most_written)) (end_get deck (record { key = key; items = items }) i n l at).1 (a.sound.name, a.short)
+        subst (λ (k : Module). IsNameText k.key.name × (length k.items ≤ most_written) × AllByRecursion (InTurns 2) k.items) (end_get deck (record { key = key; items = items }) i n l at).1 (a.sound.name, a.short, a.range)
 
 sound_by : (deck : List Module) (key : Key) (items : List Item) → IsSoundDeck deck → IsAdded deck key items → length (with_module deck key items) ≤ 65536 → AddsBy deck key items
     → IsSoundDeck (with_module deck key items)
@@ -113,7 +116,7 @@ calls_both : (deck : List Module) (xs ys : List Item) → CallsFit deck xs → C
 calls_both deck [] ys a b = b
 calls_both deck (x ∷ xs) ys a b = (a.0, calls_both deck xs ys a.1 b)
 
-range_both : (xs ys : List Item) → AllByRecursion ItemInRange xs → AllByRecursion ItemInRange ys → AllByRecursion ItemInRange (xs ++ ys)
+range_both : (xs ys : List Item) → AllByRecursion (InTurns 2) xs → AllByRecursion (InTurns 2) ys → AllByRecursion (InTurns 2) (xs ++ ys)
 range_both [] ys a b = b
 range_both (x ∷ xs) ys a b = (a.0, range_both xs ys a.1 b)
 
@@ -123,7 +126,7 @@ gates_fit : (n : Numbers) (gs : List Gate) → AllByRecursion (IsSure n) gs → 
 gates_fit n [] h = tt
 gates_fit n (g ∷ gs) h = (h.0.fits, gates_fit n gs h.1)
 
-gates_range : (n : Numbers) (gs : List Gate) → AllByRecursion (IsSure n) gs → AllByRecursion ItemInRange (map item.Gate gs)
+gates_range : (n : Numbers) (gs : List Gate) → AllByRecursion (IsSure n) gs → AllByRecursion (InTurns 2) (map item.Gate gs)
 gates_range n [] h = tt
 gates_range n (g ∷ gs) h = (h.0.range, gates_range n gs h.1)
 
@@ -144,9 +147,11 @@ module _ (choice : Choice) where
     pub extends : (deck : List Module) → Extends deck (laters deck)
     pub fits : (deck : List Module) → ItemsFit n (news deck)
     pub after : (deck : List Module) → after_items n (news deck) ≡ n'
-    pub range : (deck : List Module) → AllByRecursion ItemInRange (news deck)
+    pub range : (deck : List Module) → AllByRecursion (InTurns 2) (news deck)
     pub calls : (deck : List Module) → CallsFit (laters deck) (news deck)
     pub few : (deck : List Module) → length (news deck) + left ≤ room
+    -- each key that is entered or returns was entered
+    pub seen : (keys : List Key) → Each (Seen (entered_keys x keys)) x
     pub sound : (deck : List Module) → length (laters deck) ≤ 65536 → IsSoundDeck deck → IsSoundDeck (laters deck)
 
   pub part_more : (x : List Event) (n n' : Numbers) (room more left : ℕ) → room ≤ more → Part x n n' room left → Part x n n' more left
@@ -160,6 +165,7 @@ module _ (choice : Choice) where
     range = a.range;
     calls = a.calls;
     few = λ deck. (let f = a.few deck in omega arith);
+    seen = a.seen;
     sound = a.sound;
   }
 
@@ -174,6 +180,7 @@ module _ (choice : Choice) where
     range = λ deck. tt;
     calls = λ deck. tt;
     few = λ deck. omega arith;
+    seen = λ keys. tt;
     sound = λ deck few h. h;
   }
 
@@ -197,6 +204,10 @@ module _ (choice : Choice) where
         calls_both (b.laters (a.laters deck)) (a.news deck) (b.news (a.laters deck))
         (subst (λ (d : List Module). CallsFit d (a.news deck)) (sym e.is) (CallsFit-more (a.laters deck) e.more (a.news deck) (a.calls deck))) (b.calls (a.laters deck));
     few = λ deck. omega (arith, length-append (a.news deck) (b.news (a.laters deck)), a.few deck, b.few (a.laters deck));
+    seen = λ keys.
+        let mid : List Key = entered_keys x keys in
+        subst (λ (ks : List Key). Each (Seen ks) (x ++ y)) (sym (entered-append x y keys))
+        (each_append (Seen (entered_keys y mid)) x y (each_weaker (Seen mid) (Seen (entered_keys y mid)) x (λ k h. seen_along y mid k h) (a.seen keys)) (b.seen mid));
     sound = λ deck few h. b.sound (a.laters deck) few (a.sound deck (extends_few (a.laters deck) (b.laters (a.laters deck)) (b.extends (a.laters deck)) few) h);
   }
 
@@ -211,6 +222,7 @@ module _ (choice : Choice) where
     range = λ deck. (tt, tt);
     calls = λ deck. (tt, tt);
     few = λ deck. h;
+    seen = λ keys. tt;
     sound = λ deck few h. h;
   }
 
@@ -227,7 +239,8 @@ module _ (choice : Choice) where
         range = λ deck. gates_range n (chosen choice g) all;
         calls = λ deck. gates_call deck (chosen choice g);
         few = λ deck. omega (arith, length-map (chosen choice g) item.Gate, few_chosen choice g);
-        sound = λ deck few h. h;
+        seen = λ keys. tt;
+    sound = λ deck few h. h;
       }
 
   -- a call of a key, whose body is a part by itself
@@ -253,6 +266,11 @@ module _ (choice : Choice) where
             subst (λ o. IsSomeAnd o (λ (m : Module). map class_of ws ≡ param_classes m.key)) (sym s.is) (classes ∙ ap param_classes (sym s.named)) in
             (fit, tt);
         few = λ deck. h;
+        seen = λ keys.
+            let ks : List Key = entered_keys lev (with_key keys key) in
+            let own : Seen ks key = seen_along lev (with_key keys key) key (seen_self keys key) in
+            subst (λ (z : List Key). Each (Seen z) (Enter key ws ∷ (lev ++ Return key ∷ []))) (sym (entered-append lev (Return key ∷ []) (with_key keys key)))
+            (own, each_append (Seen ks) lev (Return key ∷ []) (a.seen (with_key keys key)) (own, tt));
         sound = λ deck few k.
             let d : List Module = a.laters deck in
             let e = extends_entry d key (a.news deck) in

@@ -2,7 +2,6 @@
 use Rattle.std.proofs.Common.{◌≡◌, ℕ, zero, suc, ◌+◌, ◌-◌, ◌*◌, ◌≤◌, Bool, true, false, cond, List, [], ◌∷◌, ◌++◌, length, Option, Some, None, Result, Ok, Err, refl, sym, ap, ◌∙◌, subst, arith}
 use Rattle.std.specs.Prelude.{ℤ, pos, negsuc, nat_le, map}
 use Rattle.std.specs.List.{AllByRecursion}
-use Rattle.std.proofs.lemmas.Bool.Decides.{nat_tests}
 use Rattle.std.proofs.lemmas.List.Elements.{All-from_recursion}
 use Rattle.sc_base.specs.NameTexts.{IsNameText}
 use Rattle.sc_base.specs.declared.Place.{Place}
@@ -46,6 +45,7 @@ use Rattle.sc_meaning.proofs.Distinct.{distinct_span}
 use Rattle.sc_meaning.proofs.Fullness.{IsFull, full_wires, full_number, pass_all_full}
 use Rattle.sc_meaning.proofs.GateShapes.{IsSure, called_sure, measured_sure}
 use Rattle.sc_meaning.proofs.InRange.{Ranged, empty_ranged, declare_ranged, set_ranged, drop_ranged, start_ranged, new_ranged}
+use Rattle.sc_meaning.proofs.KeyCounts.{both_more, le_is}
 use Rattle.sc_meaning.proofs.MoveActs.{names_behind, AreTaken, gate_facts, prepares, prepared_enters, many_made, one_made, advance_keeps}
 use Rattle.sc_meaning.proofs.MoveTypes.{gates_mean, operand_held, operand_one}
 use Rattle.sc_meaning.proofs.Parts.{IsSoundKey, Part, part_more, part_none, part_then, part_fresh, part_gate}
@@ -68,13 +68,6 @@ pub record Good (stack : Stack) (s : State) : Type 0 where
 
 pub good_classes : (stack : Stack) (s : State) → Good stack s → Suits stack s.wires
 good_classes stack s g = suits_weaker IsFull IsWireOf full_wires stack s.wires g.suits
-
-pub both_more : (c : Class) (k : ℕ) (n : Numbers) → both (with_more c k n) ≡ both n + k
-both_more Q k n = omega arith
-both_more C k n = omega arith
-
-pub le_is : (a b : ℕ) → nat_le a b ≡ true → a ≤ b
-le_is a b h = grind (arith, nat_tests)
 
 -- a call that may be made: what is known of its key and of its wires
 pub record IsMade (program : Program) (own : Numbers) (key : Key) (ws : List Wire) : Type 0 where
