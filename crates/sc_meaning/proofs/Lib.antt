@@ -32,6 +32,7 @@ pub mod Scoped
 pub mod Sharing
 pub mod SoundActs
 pub mod SoundBodies
+pub mod SoundDecks
 pub mod Spanned
 pub mod Tall
 pub mod Top

@@ -17,10 +17,11 @@ use Rattle.sc_syntax.specs.declared.Act as act
 use Rattle.sc_syntax.specs.declared.Act.{Act, If', While', For', Block', Held-Act-If-2, None', Some', Row_of-Stmt, end_of-Stmt, more_of-Stmt}
 use Rattle.sc_syntax.specs.Alike.{PureAct, PureExpr, PureHeld, PureNamed, PureParam, PureStmts, in_row, pure_act, pure_expr, pure_held, pure_init, pure_part, pure_row, pure_source, pure_stmt}
 use Rattle.sc_syntax.specs.Formed.{HasItsValue, AreFormedStmts, IsFormedAct, IsFormedActOption, IsFormedExpr, IsFormedInit, IsFormedOption, IsFormedPart, IsFormedStmt}
-use Rattle.sc_types.specs.Accepted.{IsAccepted}
+use Rattle.sc_deck.specs.Keys.{main_key}
 use Rattle.sc_types.specs.Statements.{part_name, named_wants}
 use Rattle.sc_types.specs.Typing.{TypedSource, IsChecked}
 use Rattle.sc_types.proofs.AcceptedSources.{checked_accepted}
+use Rattle.sc_types.proofs.NamedParts.{has_main}
 use Rattle.sc_value.specs.Ranges.{HoldsWritten}
 use Rattle.sc_value.proofs.RangeLaws.{formed_written}
 use Rattle.sc_word.specs.Typed.{TypedWords}
@@ -162,3 +163,9 @@ pub source_written : (t : TypedSource) (i : ℕ) → IsChecked t i → (at : Lis
 source_written t i checked at name params stmts e =
     let p = part_of t i checked at (of_module name params stmts) e in
     module_written p.from p.typed p.formed name params stmts p.is
+
+-- MAIN
+pub main_name : (t : TypedSource) (i : ℕ) → IsChecked t i → IsNameText main_key.name
+main_name t i checked =
+    let m = has_main t.source i checked.main_is in
+    subst IsNameText m.named (formed_name (part.Module m.main) (all_at IsFormedPart t.source.parts i (part.Module m.main) checked.formed.each m.stands))
