@@ -1,5 +1,5 @@
 -- Arrays of a body have at least one wire, so those that are passed have, and numbers that are passed are in range.
-use Rattle.std.proofs.Common.{◌≡◌, ℕ, ◌≤◌, List, [], ◌∷◌, length, map, replicate, Option, Some, None, Result, Ok, refl, sym, ap, ◌∙◌, subst, arith}
+use Rattle.std.proofs.Common.{◌≡◌, ℕ, ◌≤◌, List, [], ◌∷◌, length, map, replicate, Option, Some, None, Ok, sym, ap, ◌∙◌, subst, arith}
 use Rattle.std.specs.List.{AllByRecursion}
 use Rattle.std.proofs.lemmas.List.{length-map, length-replicate}
 use Rattle.sc_base.specs.declared.Place.{Place}
@@ -14,7 +14,6 @@ use Rattle.sc_types.specs.Scopes.{Stack, kinds_in}
 use Rattle.sc_value.specs.declared.Value.{Value}
 use Rattle.sc_value.specs.declared.Value.TheVariants as v
 use Rattle.sc_value.specs.Ranges.{HoldsWritten}
-use Rattle.sc_deck.specs.declared.key.Arg.{Arg}
 use Rattle.sc_deck.specs.declared.key.Arg.TheVariants as arg
 use Rattle.sc_deck.specs.Keys.{HasLength, ArgInRange}
 use Rattle.sc_meaning.specs.declared.want.Want.{Want}
@@ -24,7 +23,7 @@ use Rattle.sc_meaning.specs.States.{State, wires_named}
 use Rattle.sc_meaning.specs.Values.{◌>>=◌, wanted, whole_number, element, operand, wire_argument}
 use Rattle.sc_meaning.proofs.InRange.{Ranged, wanted_ranged, arg_ranged}
 use Rattle.sc_meaning.proofs.MoveBodies.{Fills}
-use Rattle.sc_meaning.proofs.MoveTypes.{ok_then, AnyOf, IsOneWire, AreWiresOf, Wanted, AllWanted, element_is}
+use Rattle.sc_meaning.proofs.MoveTypes.{ok_then, AnyOf, AreWiresOf, Wanted, AllWanted, element_is}
 use Rattle.sc_meaning.proofs.Scoped.{IsWireOf, IsKnownBy, SuitsBy, suits_name}
 use Rattle.sc_meaning.proofs.Written.{ExprsWritten}
 use Rattle.sc_deck.proofs.CallLemmas.{all_one}

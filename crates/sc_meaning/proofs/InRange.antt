@@ -1,9 +1,9 @@
 -- The numbers of a run fit 64 bits.
-use Rattle.std.proofs.Common.{◌≡◌, ℕ, zero, suc, ◌<◌, ◌^◌, Bool, true, false, cond, ℤ, pos, negsuc, FitsSigned, w64, List, [], ◌∷◌, Option, Some, None, Result, Ok, Err, IfOk, refl, sym, ◌∙◌, subst, arith}
+use Rattle.std.proofs.Common.{◌≡◌, ℕ, ◌<◌, ◌^◌, Bool, true, false, cond, ℤ, pos, negsuc, FitsSigned, w64, List, [], ◌∷◌, Option, Some, None, Result, Ok, Err, IfOk, refl, sym, ◌∙◌, subst, arith}
 use Rattle.std.specs.Prelude.{codes, drop, is_some}
 use Rattle.std.specs.FinMap.{get, insert, empty, get-empty}
 use Rattle.std.specs.List.{AllByRecursion}
-use Rattle.std.specs.Option.{option_or, unwrap_or}
+use Rattle.std.specs.Option.{option_or}
 use Rattle.std.specs.Ordering.{nat_cmp}
 use Rattle.std.specs.Cmp.Lexicographic.{slice_cmp}
 use Rattle.std.specs.Str.{bytes_eq}
@@ -26,10 +26,9 @@ use Rattle.sc_value.proofs.ScopeLaws.{get_inserted}
 use Rattle.sc_deck.specs.declared.key.Arg.{Arg}
 use Rattle.sc_deck.specs.declared.key.Arg.TheVariants as arg
 use Rattle.sc_deck.specs.Keys.{ArgInRange}
-use Rattle.sc_meaning.specs.declared.fault.ElabFault.{ElabFault}
-use Rattle.sc_meaning.specs.Arguments.{number_arg, number_params, callee_numbers}
+use Rattle.sc_meaning.specs.Arguments.{number_arg, number_params}
 use Rattle.sc_meaning.specs.Faults.{in_run}
-use Rattle.sc_meaning.specs.Values.{◌>>=◌, number, converted, wanted, zero_of, start_value, operator, operand_value, new_value, old_value}
+use Rattle.sc_meaning.specs.Values.{◌>>=◌, number, converted, wanted, zero_of, start_value, operator, operand_value, new_value}
 use Rattle.sc_meaning.proofs.MoveTypes.{ok_then}
 use Rattle.sc_meaning.proofs.Written.{OptionWritten}
 

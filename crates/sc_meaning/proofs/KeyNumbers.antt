@@ -1,5 +1,5 @@
 -- A deck has each key once, at its number, so it has no more modules than keys that were entered.
-use Rattle.std.proofs.Common.{◌≡◌, ℕ, zero, suc, ◌<◌, ◌≤◌, ◌⊎◌, inl, inr, Bool, true, false, cond, ◌||◌, List, [], ◌∷◌, length, get_or, Some, refl, sym, ap, ◌∙◌, subst, arith}
+use Rattle.std.proofs.Common.{◌≡◌, ℕ, suc, ◌<◌, ◌≤◌, ◌⊎◌, inl, inr, Bool, true, false, cond, ◌||◌, List, [], ◌∷◌, length, get_or, Some, refl, sym, ap, ◌∙◌, subst, arith}
 use Rattle.std.specs.Prelude.{slice_get}
 use Rattle.std.specs.List.{list_any}
 use Rattle.std.proofs.lemmas.Bool.{cases_lt}
@@ -80,6 +80,6 @@ few_modules deck keys numbered seen =
     pigeonhole (length deck) (length keys) (λ i. first_in keys (get_or deck i d).key)
     (λ i below. first_below keys (get_or deck i d).key (seen i (get_or deck i d) (slice_get-get_or deck i d below)))
     (λ i j p q e.
-        let same : (get_or deck i d).key ≡ (get_or deck j d).key =
-        first_same keys (get_or deck i d).key (get_or deck j d).key (seen i (get_or deck i d) (slice_get-get_or deck i d p)) (seen j (get_or deck j d) (slice_get-get_or deck j d q)) e in
-        sym (numbered i (get_or deck i d) (slice_get-get_or deck i d p)) ∙ ap (number_in_deck deck) same ∙ numbered j (get_or deck j d) (slice_get-get_or deck j d q))
+    let same : (get_or deck i d).key ≡ (get_or deck j d).key =
+    first_same keys (get_or deck i d).key (get_or deck j d).key (seen i (get_or deck i d) (slice_get-get_or deck i d p)) (seen j (get_or deck j d) (slice_get-get_or deck j d q)) e in
+    sym (numbered i (get_or deck i d) (slice_get-get_or deck i d p)) ∙ ap (number_in_deck deck) same ∙ numbered j (get_or deck j d) (slice_get-get_or deck j d q))

@@ -1,5 +1,5 @@
 -- What the events of a part of a body make: items that fit, over a deck that stays a deck.
-use Rattle.std.proofs.Common.{◌≡◌, ◌≢◌, ℕ, zero, suc, ◌+◌, ◌*◌, ◌<◌, ◌≤◌, ◌⊎◌, inl, inr, Bool, true, false, cond, List, [], ◌∷◌, ◌++◌, length, map, Some, refl, sym, ap, ◌∙◌, subst, arith, true≢false, All, length-append}
+use Rattle.std.proofs.Common.{◌≡◌, ◌≢◌, ℕ, suc, ◌+◌, ◌<◌, ◌≤◌, ◌⊎◌, inl, inr, Bool, true, false, cond, List, [], ◌∷◌, ◌++◌, length, map, Some, refl, sym, ap, ◌∙◌, subst, arith, true≢false, All, length-append}
 use Rattle.std.specs.Prelude.{slice_get, IsSomeAnd}
 use Rattle.std.specs.List.{AllByRecursion}
 use Rattle.std.proofs.lemmas.Bool.{cases_lt}
@@ -15,7 +15,7 @@ use Rattle.sc_deck.specs.declared.item.Item.{Item}
 use Rattle.sc_deck.specs.declared.item.Item.TheVariants as item
 use Rattle.sc_deck.specs.declared.key.Key.{Key}
 use Rattle.sc_deck.specs.Bodies.{after_items, ItemsFit}
-use Rattle.sc_deck.specs.Decks.{CallFits, CallsFit, IsDeck, IsNewKey}
+use Rattle.sc_deck.specs.Decks.{CallFits, CallsFit, IsDeck}
 use Rattle.sc_deck.specs.Events.{Event, Enter, Fresh, Apply, Return}
 use Rattle.sc_deck.specs.Items.{after_item, ItemInRange}
 use Rattle.sc_deck.specs.KeyLaws.{same_key_decides}
@@ -240,7 +240,7 @@ module _ (choice : Choice) where
         calls = λ deck. gates_call deck (chosen choice g);
         few = λ deck. omega (arith, length-map (chosen choice g) item.Gate, few_chosen choice g);
         seen = λ keys. tt;
-    sound = λ deck few h. h;
+        sound = λ deck few h. h;
       }
 
   -- a call of a key, whose body is a part by itself

@@ -1,7 +1,6 @@
 -- The statements of a checked body make items that fit.
-use Rattle.std.proofs.Common.{◌≡◌, ℕ, zero, suc, ◌+◌, ◌-◌, ◌*◌, ◌≤◌, Bool, true, false, cond, List, [], ◌∷◌, ◌++◌, length, Option, Some, None, Result, Ok, Err, refl, sym, ap, ◌∙◌, subst, arith}
+use Rattle.std.proofs.Common.{◌≡◌, ℕ, zero, suc, ◌+◌, ◌-◌, ◌*◌, ◌≤◌, Bool, true, false, cond, List, [], ◌∷◌, length, Option, Some, None, Result, Ok, Err, refl, sym, subst, arith}
 use Rattle.std.specs.Prelude.{ℤ, pos, negsuc, nat_le, map}
-use Rattle.std.specs.List.{AllByRecursion}
 use Rattle.std.proofs.lemmas.List.Elements.{All-from_recursion}
 use Rattle.sc_base.specs.NameTexts.{IsNameText}
 use Rattle.sc_base.specs.declared.Place.{Place}
@@ -33,8 +32,8 @@ use Rattle.sc_deck.specs.Keys.{HasLength, ArgInRange, param_classes}
 use Rattle.sc_deck.specs.Unfolding.{wires_from}
 use Rattle.sc_meaning.specs.declared.choice.Choice.{Choice}
 use Rattle.sc_meaning.specs.declared.fault.ElabFault.{ElabFault}
-use Rattle.sc_meaning.specs.declared.fault.ElabFault.TheVariants.{TooLong, TooWide, BadSize}
-use Rattle.sc_meaning.specs.Arguments.{Passed, args_of, wires_of, wants_of, prepared, gate_wants, called_gate}
+use Rattle.sc_meaning.specs.declared.fault.ElabFault.TheVariants.{TooWide}
+use Rattle.sc_meaning.specs.Arguments.{args_of, wires_of, wants_of, prepared, gate_wants, called_gate}
 use Rattle.sc_meaning.specs.Definitions.{Definition, Program, definition}
 use Rattle.sc_meaning.specs.Kept.{FitsBy}
 use Rattle.sc_meaning.specs.Outcomes.{Outcome, Done, Stopped, after, then_do, given, leaving}
@@ -258,8 +257,10 @@ module _ (program : Program) (choice : Choice) where
       go_given stack s.next room (called_gate s name args) (apply s)
       (λ gate is. go_apply stack gate s room r g
       (called_sure s.next s name args gate is
-      (λ ps e. (gate_facts stack s s.next classes g.held name args fit ps e,
-      (pass_all_full stack s g.suits g.ranged (gate_wants name (length args)) args ps (gates_mean name (length args) (kinds_in stack) args fit) w e).1))))
+      (λ ps e. (
+        gate_facts stack s s.next classes g.held name args fit ps e,
+        (pass_all_full stack s g.suits g.ranged (gate_wants name (length args)) args ps (gates_mean name (length args) (kinds_in stack) args fit) w e).1,
+      ))))
 
   go_measure : (stack : Stack) (name : GateName) (into from : PureNamed) → IsMeasuring name → IsOperand (kinds_in stack) (OneWire C) into → IsOperand (kinds_in stack) (OneWire Q) from
       → AllGo 64 stack stack (λ s. given (measured s name into from) (apply s))
@@ -284,20 +285,20 @@ module _ (program : Program) (choice : Choice) where
         let wanted = takes t d us is want (kinds_in stack) args fit in
         go_given stack s.next room (prepared s d args) (enter_with call t s)
         (λ ps e.
-            let enters = prepared_enters program stack s t d args (good_classes stack s g) g.held is wanted ps e in
-            let full = pass_all_full stack s g.suits g.ranged (wants_of d) args ps wanted w (prepares s d args ps e).passes in
-            let key : Key = record { name = t; args = args_of ps } in
-            record {
-              holds = back_by stack s room (call key (wires_of ps) s.next) r g
-                  (calls key (wires_of ps) s.next s.next (record {
-                    sound = record { name = named t d is; lengths = All-from_recursion HasLength (args_of ps) full.0; args = All-from_recursion ArgInRange (args_of ps) full.1 };
-                    fits = enters.fits;
-                    distinct = enters.distinct;
-                    there = enters.there;
-                    classes = enters.classes;
-                    narrow = (let w = g.width in let n = g.narrow in omega arith);
-                  }));
-            })
+        let enters = prepared_enters program stack s t d args (good_classes stack s g) g.held is wanted ps e in
+        let full = pass_all_full stack s g.suits g.ranged (wants_of d) args ps wanted w (prepares s d args ps e).passes in
+        let key : Key = record { name = t; args = args_of ps } in
+        record {
+          holds = back_by stack s room (call key (wires_of ps) s.next) r g
+              (calls key (wires_of ps) s.next s.next (record {
+                sound = record { name = named t d is; lengths = All-from_recursion HasLength (args_of ps) full.0; args = All-from_recursion ArgInRange (args_of ps) full.1 };
+                fits = enters.fits;
+                distinct = enters.distinct;
+                there = enters.there;
+                classes = enters.classes;
+                narrow = (let w = g.width in let n = g.narrow in omega arith);
+              }));
+        })
 
     -- ---- statements
 

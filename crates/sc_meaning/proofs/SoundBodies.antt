@@ -1,5 +1,5 @@
 -- The bodies of a checked source make items that fit, and so do its calls.
-use Rattle.std.proofs.Common.{◌≡◌, ℕ, zero, suc, ◌+◌, ◌*◌, ◌≤◌, Bool, true, false, cond, List, [], ◌∷◌, ◌++◌, length, map, replicate, Option, Some, None, FitsSigned, w64, refl, sym, ap, ◌∙◌, subst, arith, length-append, All}
+use Rattle.std.proofs.Common.{◌≡◌, ℕ, zero, suc, ◌+◌, ◌*◌, ◌≤◌, Bool, true, false, cond, List, [], ◌∷◌, ◌++◌, length, map, replicate, Option, Some, None, FitsSigned, w64, refl, sym, subst, arith, length-append}
 use Rattle.std.specs.Prelude.{nat_le, sum}
 use Rattle.std.specs.FinMap.{empty}
 use Rattle.std.specs.List.{AllByRecursion}
@@ -11,7 +11,6 @@ use Rattle.sc_gate.specs.declared.gate.Gate.{Gate}
 use Rattle.sc_gate.specs.declared.gate.Wire.{Wire}
 use Rattle.sc_gate.specs.Gates.{operands}
 use Rattle.sc_gate.specs.Numbers.{Numbers, both, no_wires, with_more}
-use Rattle.sc_gate.specs.Renaming.{rename_gate}
 use Rattle.sc_gate.specs.SameGates.{value_of}
 use Rattle.sc_rev.specs.declared.bit_gate.BitGate.{BitGate}
 use Rattle.sc_rev.specs.declared.bit_gate.BitGate.TheVariants as bit
@@ -20,15 +19,15 @@ use Rattle.sc_rev.specs.Functions.{gates_of, steps_of}
 use Rattle.sc_rev.proofs.Placing.{own_gates}
 use Rattle.sc_syntax.specs.declared.Name.{Name}
 use Rattle.sc_syntax.specs.Alike.{PureParam, PurePart, PureStmts}
-use Rattle.sc_types.specs.Accepted.{Taken, AreParams, with_params, AreFine, IsAcceptedPart}
+use Rattle.sc_types.specs.Accepted.{Taken, AreParams, with_params, IsAcceptedPart}
 use Rattle.sc_word.specs.Fits.{IsTypedFn}
 use Rattle.sc_word.specs.Scratch.{fn_scratch, fn_wires}
 use Rattle.sc_word.specs.Typed.{TypedWords}
 use Rattle.sc_deck.specs.declared.key.Key.{Key}
-use Rattle.sc_deck.specs.Events.{Event, Enter, Fresh, Apply, Return}
+use Rattle.sc_deck.specs.Events.{Event, Apply}
 use Rattle.sc_deck.specs.Items.{GateFits}
 use Rattle.sc_deck.specs.Keys.{HasLength, ArgInRange, param_classes, params_of}
-use Rattle.sc_deck.specs.Unfolding.{numbered, placed, wires_from}
+use Rattle.sc_deck.specs.Unfolding.{numbered, wires_from}
 use Rattle.sc_meaning.specs.declared.choice.Choice.{Choice}
 use Rattle.sc_meaning.specs.declared.fault.ElabFault.TheVariants.{TooWide}
 use Rattle.sc_meaning.specs.declared.fault.ElabFault.{ElabFault}
@@ -180,14 +179,20 @@ module _ (program : Program) (choice : Choice) where
       let total = both_more Q k (params_of key) in
       function_if key (nat_le (length (call_wires f own (params_of key))) 65536) (function_events f own (params_of key)) inner (TooWide name.place)
       (λ fits.
-          let small : length (call_wires f own (params_of key)) ≤ 65536 = le_is (length (call_wires f own (params_of key))) 65536 fits in
-          let narrow : both inner ≤ 65536 = omega arith in
-          let few : length f.gates ≤ 720896 = sure.few (omega arith) in
-          (narrow, (1 + 64 * length f.gates, 0, omega arith,
+      let small : length (call_wires f own (params_of key)) ≤ 65536 = le_is (length (call_wires f own (params_of key))) 65536 fits in
+      let narrow : both inner ≤ 65536 = omega arith in
+      let few : length f.gates ≤ 720896 = sure.few (omega arith) in (
+        narrow,
+        (
+          1 + 64 * length f.gates,
+          0,
+          omega arith,
           subst (λ (es : List Event). Part choice (fresh_scratch k ++ es) (params_of key) inner (1 + 64 * length f.gates) 0) (sym events)
-          (part_then choice (fresh_scratch k) (map Apply f.gates) (params_of key) inner inner (1 + 64 * length f.gates) (64 * length f.gates) 0
-          (part_scratch k (params_of key) (64 * length f.gates))
-          (part_gates f.gates inner (sure_later (only_qubits (m + k)) inner (λ c. qubits_ahead m k (params_of key) sized c) f.gates sure.gates))))))
+              (part_then choice (fresh_scratch k) (map Apply f.gates) (params_of key) inner inner (1 + 64 * length f.gates) (64 * length f.gates) 0
+              (part_scratch k (params_of key) (64 * length f.gates))
+              (part_gates f.gates inner (sure_later (only_qubits (m + k)) inner (λ c. qubits_ahead m k (params_of key) sized c) f.gates sure.gates))),
+        ),
+      ))
 
   -- ---- bodies and calls
 

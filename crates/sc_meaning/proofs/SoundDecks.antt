@@ -1,7 +1,6 @@
 -- THE INSTANCES ARE A DECK, and a hierarchical text may hold them.
-use Rattle.std.proofs.Common.{◌≡◌, ◌≢◌, ℕ, ◌+◌, ◌<◌, ◌≤◌, ◌^◌, Bool, true, false, cond, List, [], ◌∷◌, length, map, get_or, Option, Some, None, Result, Ok, Err, refl, sym, ap, ◌∙◌, subst, arith, All, AllPairs}
+use Rattle.std.proofs.Common.{◌≡◌, ◌≢◌, ℕ, ◌≤◌, Bool, true, false, cond, List, [], length, get_or, Some, None, Ok, Err, refl, sym, ap, ◌∙◌, subst, arith, All, AllPairs}
 use Rattle.std.specs.Prelude.{nat_lt}
-use Rattle.std.specs.List.{AllByRecursion}
 use Rattle.std.proofs.lemmas.Bool.Decides.{nat_tests}
 use Rattle.std.proofs.lemmas.List.Elements.{All-map, All-nil}
 use Rattle.std.proofs.lemmas.Option.{slice_get-get_or}
@@ -15,28 +14,26 @@ use Rattle.sc_types.proofs.NamedParts.{distinct_names, has_main}
 use Rattle.sc_deck.specs.declared.key.Key.{Key}
 use Rattle.sc_deck.specs.Bodies.{IsBody}
 use Rattle.sc_deck.specs.Decks.{IsDeck}
-use Rattle.sc_deck.specs.Items.{ItemInRange}
 use Rattle.sc_deck.specs.Keys.{HasLength, HasLengths, ArgInRange, main_key}
-use Rattle.sc_deck.specs.Modules.{Module, body_of, heights_of}
-use Rattle.sc_deck.specs.Turns.{folded, folded_module, folded_modules}
+use Rattle.sc_deck.specs.Modules.{Module, body_of}
+use Rattle.sc_deck.specs.Turns.{folded_module, folded_modules}
 use Rattle.sc_deck.proofs.FoldLaws.{IsDeck-folded, IsWhole-folded, heights_of-folded}
 use Rattle.sc_meaning.specs.declared.choice.Choice.{Choice}
 use Rattle.sc_meaning.specs.declared.fault.ElabFault.{ElabFault}
 use Rattle.sc_meaning.specs.declared.fault.ElabFault.TheVariants.{TooManyInstances}
 use Rattle.sc_meaning.specs.Answers.{AnswerIs}
 use Rattle.sc_meaning.specs.Decks.{AllDecks, AllSound}
-use Rattle.sc_meaning.specs.Definitions.{definition}
 use Rattle.sc_meaning.specs.Instances.{entered_keys, refusal_of, instances_of}
-use Rattle.sc_meaning.specs.Kept.{Seen, made_of}
+use Rattle.sc_meaning.specs.Kept.{Seen}
 use Rattle.sc_meaning.specs.Local.{local, Made, nothing, make, ran}
 use Rattle.sc_meaning.specs.Meaning.{run, refusal, instances}
 use Rattle.sc_meaning.specs.Outcomes.{Outcome, Done, Stopped, events_of}
 use Rattle.sc_meaning.specs.Programs.{program_of}
 use Rattle.sc_meaning.proofs.Answered.{local_answers}
 use Rattle.sc_meaning.proofs.Fitting.{defines, main_fits, source_fits}
-use Rattle.sc_meaning.proofs.FoldedTurns.{InTurns, folded_in_range}
+use Rattle.sc_meaning.proofs.FoldedTurns.{folded_in_range}
 use Rattle.sc_meaning.proofs.KeyNumbers.{few_modules, numbered_made}
-use Rattle.sc_meaning.proofs.Parts.{most_written, IsSoundDeck, IsSoundKey}
+use Rattle.sc_meaning.proofs.Parts.{IsSoundDeck}
 use Rattle.sc_meaning.proofs.SoundActs.{CallBy, IsMade}
 use Rattle.sc_meaning.proofs.SoundBodies.{IsSureProgram, calls_go, part_sure}
 use Rattle.sc_meaning.proofs.Wholes.{all_shallow, all_whole, keys_made}
@@ -104,11 +101,11 @@ module _ (choice : Choice) (run : Outcome Numbers) (none : refusal_of run ≡ No
       let keys : m.keys ≡ entered_keys x [] = ap (λ (n : Made). n.keys) is in
       done_by (nat_lt 65536 (length m.keys)) k m refl
       (λ few.
-          let seen = keys_made (Seen (entered_keys x [])) choice x nothing (λ i n at. absurd cc) (part.seen []) in
-          let small : length m.deck ≤ length (entered_keys x []) = few_modules m.deck (entered_keys x []) (numbered_made choice x nothing (λ i n at. absurd cc)) seen in
-          let many = ap length keys in
-          let long = ap length deck in
-          subst IsSoundDeck (sym deck) (part.sound [] (omega arith) empty_sound)) answer
+      let seen = keys_made (Seen (entered_keys x [])) choice x nothing (λ i n at. absurd cc) (part.seen []) in
+      let small : length m.deck ≤ length (entered_keys x []) = few_modules m.deck (entered_keys x []) (numbered_made choice x nothing (λ i n at. absurd cc)) seen in
+      let many = ap length keys in
+      let long = ap length deck in
+      subst IsSoundDeck (sym deck) (part.sound [] (omega arith) empty_sound)) answer
 
 deck_sound : (t : TypedSource) (i : ℕ) → IsChecked t i → refusal t ≡ None → (choice : Choice) → IsSoundDeck (instances t choice)
 deck_sound t i checked none choice =
@@ -120,10 +117,10 @@ folded_deck : (deck : List Module) → IsSoundDeck deck → IsDeck (folded_modul
 folded_deck deck sound =
     IsDeck-folded deck sound.keeps
     (λ i d below.
-        let m : Module = get_or deck i d in
-        let facts = sound.each i m (slice_get-get_or deck i d below) in
-        let short = facts.1 in
-        folded_in_range m.items (omega arith) facts.2)
+    let m : Module = get_or deck i d in
+    let facts = sound.each i m (slice_get-get_or deck i d below) in
+    let short = facts.1 in
+    folded_in_range m.items (omega arith) facts.2)
 
 pub all_decks : AllDecks
 all_decks t i checked none choice = let sound = deck_sound t i checked none choice in (sound.keeps, folded_deck (instances t choice) sound)

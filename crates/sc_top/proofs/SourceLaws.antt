@@ -7,6 +7,7 @@ use Rattle.sc_gate.specs.Lines.{flat_text}
 use Rattle.sc_gate.specs.Numbers.{Numbers, with_more, no_wires}
 use Rattle.sc_meaning.proofs.ClassicalLaws.{calls_xor}
 use Rattle.sc_meaning.proofs.Expansion.{all_expand}
+use Rattle.sc_meaning.proofs.SoundDecks.{all_decks, all_sound}
 use Rattle.sc_meaning.specs.declared.choice.Choice.{Choice}
 use Rattle.sc_meaning.specs.Meaning.{run, instances, meaning, Expands, expansion_of_last, other_events}
 use Rattle.sc_meaning.specs.Outcomes.{events_of}
@@ -103,8 +104,10 @@ headline = record {
         unfolds = same;
         writes_flat = λ limit fits. goes (modules_of t choice) _ (goes (modules_of t choice) _ here (writable limit (modules_of t choice) fits))
             (ap written (sym (unwatched all (modules_of t choice) ∙ ap done same)));
-        expands = λ texts name limit held_there short deck sound fits.
-            goes (modules_of t choice) _ (goes _ _ (held_there, short) (goes (modules_of t choice) _ (sound_text_read (modules_of t choice) deck sound) (writable limit (modules_of t choice) fits)))
+        expands = λ texts name limit held_there within_text short fits.
+            let deck = (all_decks t accepted.typed.main accepted.typed.checked accepted.runs choice).1 in
+            let sound = all_sound t accepted.typed.main accepted.typed.checked accepted.runs choice short in
+            goes (modules_of t choice) _ (goes _ _ (held_there, within_text) (goes (modules_of t choice) _ (sound_text_read (modules_of t choice) deck sound) (writable limit (modules_of t choice) fits)))
             (ap (λ (x : List ℕ). written (done x)) (sym same));
       };
   calls = calls_xor;

@@ -1,13 +1,13 @@
 -- What the texts of an accepted source are.
 use Rattle.std.specs.Prelude.{◌≡◌, ℕ, ◌≤◌, false, List, Option, Some, Ok, length}
 use Rattle.sc_base.specs.Limits.{most_source_bytes, most_text_bytes}
-use Rattle.sc_deck.specs.Decks.{IsDeck}
 use Rattle.sc_deck.specs.Events.{flat, gates_in, fresh_in}
-use Rattle.sc_deck.specs.Hierarchical.{hier, IsSound}
+use Rattle.sc_deck.specs.Hierarchical.{hier}
 use Rattle.sc_gate.specs.Lines.{flat_text}
 use Rattle.sc_types.specs.Typing.{TypedSource}
 use Rattle.sc_meaning.specs.declared.choice.Choice.{Choice}
 use Rattle.sc_meaning.specs.ClassicalCalls.{CallsXor}
+use Rattle.sc_meaning.specs.Decks.{AreShort}
 use Rattle.sc_meaning.specs.Meaning.{run, meaning}
 use Rattle.sc_meaning.specs.Outcomes.{events_of}
 use Rattle.sc_top.specs.Answers.{Says, done}
@@ -28,9 +28,9 @@ pub record HasTexts (held : List ℕ → Option (List ℕ)) (all : List Watcher)
   pub unfolds : flat (whole (modules_of t choice)) ≡ meaning_text t choice
   -- `flat` writes exactly the text of these gates, where it is within every limit
   pub writes_flat : (limit : ℕ) → FitsFlat limit (modules_of t choice) → Says held all (Flat file choice limit false false false false) (Ok (done (meaning_text t choice)))
-  -- and so does `expand`, over what `hier` wrote, where that is a sound deck and not too long
+  -- and so does `expand`, over what `hier` wrote, where that is not too long and no body of it has too many items
   pub expands : (texts : List ℕ → Option (List ℕ)) (written : List ℕ) (limit : ℕ) → texts written ≡ Some (hier (modules_of t choice)) → length (hier (modules_of t choice)) ≤ most_text_bytes →
-      IsDeck (modules_of t choice) → IsSound (modules_of t choice) → FitsFlat limit (modules_of t choice) → Says texts all (Expand written limit) (Ok (done (meaning_text t choice)))
+      AreShort (modules_of t choice) → FitsFlat limit (modules_of t choice) → Says texts all (Expand written limit) (Ok (done (meaning_text t choice)))
 
 -- THE HEADLINE, in its part for `hier` and `flat`
 pub record Headline : Type 0 where
