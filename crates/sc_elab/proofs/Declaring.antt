@@ -11,6 +11,7 @@ use Rattle.sc_deck.specs.Bodies.{Contents, wires_of, with_item}
 use Rattle.sc_deck.specs.Events.{Fresh}
 use Rattle.sc_deck.specs.Unfolding.{wires_from}
 use Rattle.sc_deck.proofs.BodyLemmas.{after_items-push}
+use Rattle.sc_meaning.proofs.KeyCounts.{both_more, le_true}
 use Rattle.sc_meaning.specs.declared.choice.Choice.{Choice}
 use Rattle.sc_meaning.specs.declared.fault.ElabFault.TheVariants.{TooWide}
 use Rattle.sc_elab.specs.declared.frame.Frame.{Frame}
@@ -21,10 +22,6 @@ use Rattle.sc_meaning.specs.Run.{make_wires}
 use Rattle.sc_meaning.specs.States.{State, with_wires, with_fresh}
 use Rattle.sc_elab.proofs.Folding.{written_more}
 use Rattle.sc_elab.proofs.Going.{runs_fresh, runs_from, refused_from, refused_at}
-
-pub both_more : (c : Class) (n : ℕ) (numbers : Numbers) → both (with_more c n numbers) ≡ both numbers + n
-both_more Q n numbers = omega arith
-both_more C n numbers = omega arith
 
 -- a body with fresh wires has as many more
 pub wires_more : (body : Contents) (c : Class) (n : ℕ) → wires_of (with_item body (item.Fresh c n)) ≡ with_more c n (wires_of body)
@@ -37,9 +34,6 @@ fits_by false o p h = absurd cc
 fails_by : (b : Bool) (o p : Outcome State) → b ≡ false → cond b o p ≡ p
 fails_by true o p h = absurd cc
 fails_by false o p h = refl
-
-pub le_true : (a b : ℕ) → a ≤ b → nat_le a b ≡ true
-le_true a b h = grind (arith, nat_tests)
 
 pub le_false : (a b : ℕ) → b < a → nat_le a b ≡ false
 le_false a b h = grind (arith, nat_tests)

@@ -32,7 +32,8 @@ use Rattle.sc_meaning.specs.Programs.{function_of, definition_of, definitions, p
 use Rattle.sc_meaning.specs.States.{State}
 use Rattle.sc_elab.specs.Typings.{IsTyped, PassedFits, AllPassedFit, ArgsFit, Takes, IsEntering}
 use Rattle.sc_meaning.specs.Values.{◌>>=◌}
-use Rattle.sc_elab.proofs.KeyTyping.{passed_are, lengths_all, few_params}
+use Rattle.sc_elab.proofs.KeyTyping.{passed_are, lengths_all}
+use Rattle.sc_meaning.proofs.KeyCounts.{few_params}
 use Rattle.sc_elab.proofs.Lengths.{cond_ok}
 use Rattle.sc_elab.proofs.PassedTyping.{bind_ok, wire_by, many_passed, sorts_passed}
 

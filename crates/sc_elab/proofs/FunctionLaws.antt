@@ -45,8 +45,9 @@ use Rattle.sc_meaning.specs.Outcomes.{Outcome, Done, Stopped}
 use Rattle.sc_meaning.specs.Programs.{function_of}
 use Rattle.sc_meaning.specs.Run.{fresh_scratch, function_body}
 use Rattle.sc_elab.proofs.Folding.{written_gates, turns_more, turns_gates}
-use Rattle.sc_elab.proofs.TurnRoom.{few_chosen}
-use Rattle.sc_elab.proofs.Declaring.{both_more, le_true, le_false}
+use Rattle.sc_meaning.proofs.GateShapes.{few_chosen}
+use Rattle.sc_elab.proofs.Declaring.{le_false}
+use Rattle.sc_meaning.proofs.KeyCounts.{both_more, le_true}
 use Rattle.sc_elab.proofs.GateLaws.{after_both, after_gates}
 use Rattle.sc_meaning.proofs.Ran.{make-append, ran_fault}
 use Rattle.sc_meaning.proofs.Spanned.{wire, length_made}

@@ -33,6 +33,7 @@ use Rattle.sc_meaning.specs.Run.{measured}
 use Rattle.sc_meaning.specs.States.{State}
 use Rattle.sc_meaning.specs.Values.{◌>>=◌, operand}
 use Rattle.sc_elab.proofs.PassedTyping.{bind_ok, gate_passed, operand_fits}
+use Rattle.sc_meaning.proofs.GateShapes.{on_its_wires, kind_name, qubits_wanted, AreSingle, gate_single, qubits_few, measuring, other_class}
 use Rattle.sc_meaning.proofs.MoveTypes.{IsPassed, ArePassed, passed_distinct}
 use Rattle.sc_meaning.proofs.Scoped.{AreHeld}
 
@@ -41,36 +42,6 @@ one_is : (c : Class) (n : Numbers) (ws : List Wire) → IsOneOf c n ws → (w : 
 one_is c n [] h = absurd (let e = h.one in omega arith)
 one_is c n (w ∷ []) h = (w, refl, h.each.0)
 one_is c n (w ∷ v ∷ ws) h = absurd (let e = h.one in omega arith)
-
--- a gate on its operands
-on_its_wires : (n : Numbers) (k : Kind) (ws : List Wire) → 1 ≤ length ws → length ws ≤ 3 → SuitsName (name_of k) (map class_of ws) → AreDistinct ws → AreThere n ws
-    → GateFits n (gate_on k ws)
-on_its_wires n k [] some few suits apart there = absurd (omega arith)
-on_its_wires n k (a ∷ []) some few suits apart there = record { well_formed = record { suits = suits; distinct = apart; in_order = λ h. h }; there = there }
-on_its_wires n k (a ∷ b ∷ []) some few suits apart there = record { well_formed = record { suits = suits; distinct = apart; in_order = λ h. refl }; there = there }
-on_its_wires n k (a ∷ b ∷ c ∷ []) some few suits apart there = record { well_formed = record { suits = suits; distinct = apart; in_order = λ h. refl }; there = there }
-on_its_wires n k (a ∷ b ∷ c ∷ d ∷ ws) some few suits apart there = absurd (omega arith)
-
--- the name of the kind that is made
-kind_name : (g : GateName) (second : Option Passed) (k : Kind) → kind_of g second ≡ Ok k → name_of k ≡ g
-kind_name gate.X p k e = ap name_of (let same : k ≡ kind.X = cc in same)
-kind_name gate.Y p k e = ap name_of (let same : k ≡ kind.Y = cc in same)
-kind_name gate.Z p k e = ap name_of (let same : k ≡ kind.Z = cc in same)
-kind_name gate.H p k e = ap name_of (let same : k ≡ kind.H = cc in same)
-kind_name gate.S p k e = ap name_of (let same : k ≡ kind.S = cc in same)
-kind_name gate.T p k e = ap name_of (let same : k ≡ kind.T = cc in same)
-kind_name gate.Sdag p k e = ap name_of (let same : k ≡ kind.Sdag = cc in same)
-kind_name gate.Tdag p k e = ap name_of (let same : k ≡ kind.Tdag = cc in same)
-kind_name gate.Cnot p k e = ap name_of (let same : k ≡ kind.Cnot = cc in same)
-kind_name gate.Toffoli p k e = ap name_of (let same : k ≡ kind.Toffoli = cc in same)
-kind_name gate.Fredkin p k e = ap name_of (let same : k ≡ kind.Fredkin = cc in same)
-kind_name gate.Rx p k e = ap name_of (let same : k ≡ kind.Rx (angle p) = cc in same)
-kind_name gate.Ry p k e = ap name_of (let same : k ≡ kind.Ry (angle p) = cc in same)
-kind_name gate.Rz p k e = ap name_of (let same : k ≡ kind.Rz (angle p) = cc in same)
-kind_name gate.PrepX p k e = let b = bind_ok (start p) (λ x. Ok (kind.PrepX x)) k e in ap name_of (let same : k ≡ kind.PrepX b.0 = cc (b.2) in same)
-kind_name gate.PrepZ p k e = let b = bind_ok (start p) (λ x. Ok (kind.PrepZ x)) k e in ap name_of (let same : k ≡ kind.PrepZ b.0 = cc (b.2) in same)
-kind_name gate.MeasX p k e = ap name_of (let same : k ≡ kind.MeasX = cc in same)
-kind_name gate.MeasZ p k e = ap name_of (let same : k ≡ kind.MeasZ = cc in same)
 
 -- ---- the wires that are passed
 
@@ -89,18 +60,6 @@ more_qubits n count ws vs one h =
     subst (λ (us : List Wire). AreQubits n (suc count) (us ++ vs)) (sym w.1)
     (record { number = ap suc h.number; classes = (λ i. w.2.0 i ∷ h.classes i); there = (w.2.1, h.there) })
 
-abbrev qubits_wanted : List Want → ℕ
-qubits_wanted [] = 0
-qubits_wanted (want.One c ∷ ts) = suc (qubits_wanted ts)
-qubits_wanted (t ∷ ts) = qubits_wanted ts
-
--- wants of one qubit or a number each
-abbrev AreSingle : List Want → Type 0
-AreSingle [] = Unit {0}
-AreSingle (want.One Q ∷ ts) = AreSingle ts
-AreSingle (want.Number x ∷ ts) = AreSingle ts
-AreSingle _ = ⊥
-
 passed_qubits : (n : Numbers) (ts : List Want) (ps : List Passed) → AreSingle ts → AllPassedFit n ts ps → AreQubits n (qubits_wanted ts) (wires_of ps)
 passed_qubits n [] [] single fit = no_qubits n [] refl
 passed_qubits n [] (p ∷ ps) single fit = absurd fit
@@ -110,27 +69,6 @@ passed_qubits n (want.One C ∷ ts) (p ∷ ps) single fit = absurd single
 passed_qubits n (want.Many c ∷ ts) (p ∷ ps) single fit = absurd single
 passed_qubits n (want.Number x ∷ ts) (p ∷ ps) single fit =
     subst (λ (ws : List Wire). AreQubits n (qubits_wanted ts) (ws ++ wires_of ps)) (sym fit.0.1) (passed_qubits n ts ps single fit.1)
-
-start_single : (b : Bool) → AreSingle (start_wants b) × (qubits_wanted (start_wants b) ≡ 1)
-start_single true = (tt, refl)
-start_single false = (tt, refl)
-
-gate_single : (g : GateName) (n : ℕ) → AreSingle (gate_wants g n) × (qubits_wanted (gate_wants g n) ≡ qubits_of g)
-gate_single gate.Cnot n = (tt, refl)
-gate_single gate.Toffoli n = (tt, refl)
-gate_single gate.Fredkin n = (tt, refl)
-gate_single gate.Rx n = (tt, refl)
-gate_single gate.Ry n = (tt, refl)
-gate_single gate.Rz n = (tt, refl)
-gate_single gate.PrepX n = start_single (nat_eq n 2)
-gate_single gate.PrepZ n = start_single (nat_eq n 2)
-gate_single _ n = (tt, refl)
-
-qubits_few : (g : GateName) → (1 ≤ qubits_of g) × (qubits_of g ≤ 3)
-qubits_few gate.Cnot = (omega arith, omega arith)
-qubits_few gate.Toffoli = (omega arith, omega arith)
-qubits_few gate.Fredkin = (omega arith, omega arith)
-qubits_few _ = (omega arith, omega arith)
 
 -- THE GATE OF A CALL FITS
 pub called_fits : (n : Numbers) (g : GateName) (count : ℕ) (ps : List Passed) (second : Option Passed) (k : Kind) → AllPassedFit n (gate_wants g count) ps → kind_of g second ≡ Ok k
@@ -146,14 +84,6 @@ called_fits n g count ps second k fit made apart =
     let classes : map class_of (wires_of ps) ≡ replicate (qubits_of (name_of k)) Q =
     qubits.classes ∙ ap (λ (m : ℕ). replicate m Q) (wanted ∙ ap qubits_of (sym named)) in
     on_its_wires n k (wires_of ps) (omega arith) (omega arith) (inl classes) apart qubits.there
-
-pub measuring : (g : GateName) → IsMeasuring g → is_measurement g ≡ true
-measuring gate.MeasX h = refl
-measuring gate.MeasZ h = refl
-measuring _ h = absurd h
-
-other_class : (q c : Wire) → q.class ≡ Q → c.class ≡ C → q ≢ c
-other_class q c p r e = let impossible : Q ≡ C = sym p ∙ ap (λ (w : Wire). w.class) e ∙ r in cc
 
 -- AND SO DOES A MEASUREMENT INTO A CLASSICAL BIT
 pub measured_fits : (n : Numbers) (g : GateName) (k : Kind) (qs cs : List Wire) → is_measurement g ≡ true → kind_of g None ≡ Ok k → IsOneOf Q n qs → IsOneOf C n cs

@@ -4,7 +4,6 @@ use Rattle.std.specs.Prelude.{replicate, flat_map, fold, All}
 use Rattle.std.specs.List.{AllByRecursion}
 use Rattle.std.proofs.lemmas.List.{map-append, length-map}
 use Rattle.std.proofs.lemmas.List.Elements.{All-from_recursion}
-use Rattle.indexmap.proofs.IndexTableLemmas.Probe.{pigeonhole}
 use Rattle.sc_base.specs.declared.Class.{Class}
 use Rattle.sc_base.specs.declared.Class.TheVariants.{Q, C}
 use Rattle.sc_gate.specs.declared.gate.Wire.{Wire}
@@ -13,50 +12,10 @@ use Rattle.sc_gate.specs.Numbers.{Numbers, number_of, both, no_wires, IsThere, A
 use Rattle.sc_deck.specs.declared.key.Arg.{Arg}
 use Rattle.sc_deck.specs.declared.key.Arg.TheVariants as arg
 use Rattle.sc_deck.specs.Keys.{arg_classes, with_arg, HasLength}
-use Rattle.sc_deck.proofs.FormedLaws.{place_of_wire}
 use Rattle.sc_meaning.specs.declared.want.Want.{Want}
 use Rattle.sc_meaning.specs.declared.want.Want.TheVariants as want
 use Rattle.sc_meaning.specs.Arguments.{Passed, args_of, wires_of}
 use Rattle.sc_elab.specs.Typings.{IsOf, IsNumber, PassedFits, AllPassedFit, ArgFits, ArgsFit}
-use Rattle.sc_meaning.proofs.Spanned.{wire}
-use Rattle.sc_elab.proofs.StartLaws.{count_args}
-
--- ---- at most as many distinct wires as there are
-
-abbrev place_in : Numbers → Class → ℕ → ℕ
-place_in n Q k = k
-place_in n C k = n.qubits + k
-
-abbrev place : Numbers → Wire → ℕ
-place n w = place_in n w.class w.number
-
-place_below : (n : Numbers) (w : Wire) → IsThere n w → place n w < both n
-place_below n w h = by w.class w.number h
-  where
-    by : (c : Class) (k : ℕ) → k < number_of c n → place_in n c k < both n
-    by Q k below = omega arith
-    by C k below = omega arith
-
-same_place : (n : Numbers) (v w : Wire) → IsThere n v → IsThere n w → place n v ≡ place n w → v ≡ w
-same_place n v w h k e = by v.class w.class v.number w.number h k e
-  where
-    by : (c d : Class) (i j : ℕ) → i < number_of c n → j < number_of d n → place_in n c i ≡ place_in n d j → wire c i ≡ wire d j
-    by Q Q i j p q e = ap (wire Q) e
-    by C C i j p q e = let s : i ≡ j = omega arith in ap (wire C) s
-    by Q C i j p q e = absurd (omega arith)
-    by C Q i j p q e = absurd (omega arith)
-
-there_at : (n : Numbers) (ws : List Wire) (i : ℕ) (d : Wire) → i < length ws → AreThere n ws → IsThere n (get_or ws i d)
-there_at n [] i d below h = absurd (omega arith)
-there_at n (w ∷ ws) zero d below h = h.0
-there_at n (w ∷ ws) (suc i) d below h = there_at n ws i d (omega arith) h.1
-
-pub few_wires : (n : Numbers) (ws : List Wire) → AreDistinct ws → AreThere n ws → length ws ≤ both n
-few_wires n ws apart there =
-    pigeonhole (length ws) (both n) (λ i. place n (get_or ws i (wire Q 0)))
-    (λ i below. place_below n (get_or ws i (wire Q 0)) (there_at n ws i (wire Q 0) below there))
-    (λ i j p q e. place_of_wire ws apart i j (wire Q 0) (wire Q 0) p q
-    (same_place n (get_or ws i (wire Q 0)) (get_or ws j (wire Q 0)) (there_at n ws i (wire Q 0) p there) (there_at n ws j (wire Q 0) q there) e))
 
 -- ---- what a passed argument is in a key
 
@@ -123,15 +82,3 @@ passed_are n (t ∷ ts) (p ∷ ps) h =
 
 pub lengths_all : (args : List Arg) → AllByRecursion HasLength args → All HasLength args
 lengths_all args h = All-from_recursion HasLength args h
-
--- ---- how many wires a key has
-
--- a key has as many wires as are passed, and so at most as many as there are
-pub few_params : (n : Numbers) (args : List Arg) (ws : List Wire) → map class_of ws ≡ flat_map arg_classes args → AreDistinct ws → AreThere n ws → both (fold with_arg no_wires args) ≤ both n
-few_params n args ws classes apart there =
-    let few = few_wires n ws apart there in
-    let same = ap length classes in
-    let mapped = length-map ws class_of in
-    let counted = count_args no_wires args in
-    let none : both no_wires ≡ 0 = refl in
-    omega arith

@@ -15,7 +15,6 @@ pub mod Finding
 pub mod FoldedDecks
 pub mod Folding
 pub mod FunctionLaws
-pub mod GateCounts
 pub mod GateLaws
 pub mod GateTyping
 pub mod Going

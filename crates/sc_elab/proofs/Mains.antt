@@ -21,6 +21,7 @@ use Rattle.sc_types.specs.Typing.{IsTyped, AreTyped, TypedSource, part_at, typed
 use Rattle.sc_meaning.specs.Arguments.{want_of}
 use Rattle.sc_meaning.specs.Definitions.{Definition, definition}
 use Rattle.sc_meaning.specs.Programs.{program_of}
+use Rattle.sc_meaning.proofs.Written.{source_named}
 use Rattle.sc_elab.specs.Sources.{IsSound}
 use Rattle.sc_elab.specs.Typings.{ArgsFit, Takes, IsEntering}
 use Rattle.sc_elab.proofs.Adding.{got}
@@ -45,19 +46,6 @@ accepted_typed t h = parts_typed (named_wants (map pure_part t.source.parts)) t.
 
 -- ---- the first part of a name
 
--- the part at the first position that passes passes
-first_has : (test : Part → Bool) (ps : List Part) (j : ℕ) (q : Part) → first_at test ps ≡ Some j → slice_get ps j ≡ Some q → test q ≡ true
-first_has test [] j q at there = absurd (let impossible : None ≡ Some j = at in cc)
-first_has test (p ∷ ps) j q at there = by (test p) refl (first_at test ps) refl j at there (λ k e h. first_has test ps k q e h)
-  where
-    by : (b : Bool) → test p ≡ b → (o : Option ℕ) → first_at test ps ≡ o → (j : ℕ) → cond b (Some 0) (option_map suc o) ≡ Some j → slice_get (p ∷ ps) j ≡ Some q
-        → ((k : ℕ) → first_at test ps ≡ Some k → slice_get ps k ≡ Some q → test q ≡ true) → test q ≡ true
-    by true is o rest zero at there more = let same : p ≡ q = cc in subst (λ (x : Part). test x ≡ true) same is
-    by true is o rest (suc j) at there more = absurd cc
-    by false is None rest j at there more = absurd cc
-    by false is (Some k) rest zero at there more = absurd cc
-    by false is (Some k) rest (suc j) at there more = let same : k ≡ j = cc in more j (rest ∙ ap Some same) there
-
 -- the only one that passes is the first
 first_is : (test : Part → Bool) (ps : List Part) (p : ℕ) (q : Part) → slice_get ps p ≡ Some q → test q ≡ true → ((j : ℕ) (x : Part) → slice_get ps j ≡ Some x → test x ≡ true → j ≡ p)
     → first_at test ps ≡ Some p
@@ -74,38 +62,13 @@ first_is test (x ∷ ps) p q at is only = by (test x) refl p at only (λ k e o. 
 
 -- ---- the names of keys
 
-stands : (ps : List Part) (ws : List (Option TypedWords)) (j : ℕ) (d : Definition) → definition_at ps ws (Some j) ≡ Some d → (q : Part) × (slice_get ps j ≡ Some q)
-stands ps ws j d e = by (slice_get ps j) refl e
-  where
-    by : (o : Option Part) → slice_get ps j ≡ o → standing o (typed_at ws j) ≡ Some d → (q : Part) × (slice_get ps j ≡ Some q)
-    by None is e = absurd cc
-    by (Some q) is e = (q, is)
-
--- a name that is defined is that of a part
-defined_part : (t : TypedSource) (name : List ℕ) (d : Definition) → definition (program_of t) name ≡ Some d → (j : ℕ) × (q : Part) × (slice_get t.source.parts j ≡ Some q) × (name ≡ part_name (pure_part q))
-defined_part t name d e = by (first_at (has_name name) t.source.parts) refl (sym (found t.source.parts t.words name) ∙ e)
-  where
-    by : (o : Option ℕ) → first_at (has_name name) t.source.parts ≡ o → definition_at t.source.parts t.words o ≡ Some d
-        → (j : ℕ) × (q : Part) × (slice_get t.source.parts j ≡ Some q) × (name ≡ part_name (pure_part q))
-    by None is e = absurd cc
-    by (Some j) is e =
-        let q = stands t.source.parts t.words j d e in
-        (j, q.0, q.1, same_text name (part_name (pure_part q.0)) (sym (first_has (has_name name) t.source.parts j q.0 is q.1)))
-
-formed_name : (p : Part) → IsFormedPart p → IsNameText (part_name (pure_part p))
-formed_name (part.Module m) h = h.name.word
-formed_name (part.Words f) h = h.name.word
-
 -- THE NAME OF A KEY that is entered
 pub entering_named : (t : TypedSource) → IsSound t → (key : Key) → IsEntering t key → IsNameText key.name
 entering_named t sound key h = by (definition (program_of t) key.name) refl h.takes
   where
     by : (o : Option Definition) → definition (program_of t) key.name ≡ o → Takes o key → IsNameText key.name
     by None is takes = absurd takes
-    by (Some d) is takes =
-        let p = defined_part t key.name d is in
-        let at = got t.source.parts p.0 p.1 p.2 in
-        subst IsNameText (sym p.3) (formed_name p.1 (subst IsFormedPart at.1 (sound.checked.formed.each p.0 p.1 at.0)))
+    by (Some d) is takes = source_named t sound.place sound.checked key.name d is
 
 -- ---- main
 

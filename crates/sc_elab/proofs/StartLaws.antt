@@ -14,6 +14,7 @@ use Rattle.sc_deck.specs.declared.key.Arg.TheVariants as arg
 use Rattle.sc_deck.specs.Bodies.{wires_of}
 use Rattle.sc_deck.specs.Keys.{arg_classes, with_arg}
 use Rattle.sc_deck.specs.Unfolding.{wires_from, numbered}
+use Rattle.sc_meaning.proofs.KeyCounts.{count_args, length_numbered}
 use Rattle.sc_elab.specs.declared.frame.Frame.{Frame}
 use Rattle.sc_elab.specs.declared.span.Span.{Span}
 use Rattle.sc_meaning.specs.Arguments.{callee_numbers, wire_params}
@@ -21,7 +22,6 @@ use Rattle.sc_elab.specs.Frames.{spread, names_of, view}
 use Rattle.sc_meaning.specs.Run.{start_state}
 use Rattle.sc_elab.specs.Starting.{with_param}
 use Rattle.sc_meaning.specs.States.{Wired}
-use Rattle.sc_elab.proofs.Declaring.{both_more}
 use Rattle.sc_elab.proofs.Holding.{next_of}
 
 more_one : (c : Class) (before : Numbers) → number_of c (with_more c 1 before) ≡ suc (number_of c before)
@@ -87,30 +87,12 @@ bound_opened params params' args args' before before' scope scope' h = h
 
 -- ---- how many wires a key has
 
-count_arg : (before : Numbers) (a : Arg) → both (with_arg before a) ≡ both before + length (arg_classes a)
-count_arg before (arg.Int z) = omega arith
-count_arg before (arg.Double d) = omega arith
-count_arg before (arg.One c) = both_more c 1 before
-count_arg before (arg.Many c k) = both_more c k before ∙ ap (λ (m : ℕ). both before + m) (sym (length-replicate k c))
-
-pub count_args : (before : Numbers) (args : List Arg) → both (fold with_arg before args) ≡ both before + length (flat_map arg_classes args)
-count_args before [] = omega arith
-count_args before (a ∷ args) =
-    let one = count_arg before a in
-    let more = count_args (with_arg before a) args in
-    let all = length-append (arg_classes a) (flat_map arg_classes args) in
-    omega arith
-
 -- with the next argument there are at most as many as with all
 pub few_at : (before : Numbers) (args : List Arg) (i : ℕ) (d : Arg) → i < length args → both (fold with_arg before args) ≤ 65536
     → both (with_arg (fold with_arg before (take i args)) (get_or args i d)) ≤ 65536
 few_at before [] i d below few = absurd (omega arith)
 few_at before (a ∷ args) zero d below few = let counted = count_args (with_arg before a) args in omega arith
 few_at before (a ∷ args) (suc i) d below few = few_at (with_arg before a) args i d (omega arith) few
-
-length_numbered : (cs : List Class) (next : Numbers) → length (numbered cs next) ≡ length cs
-length_numbered [] next = refl
-length_numbered (c ∷ cs) next = ap suc (length_numbered cs (with_more c 1 next))
 
 -- the frame in which a body starts
 pub started : (params : List PureParam) (args : List Arg) (f : Frame) (scope : List (List ℕ × Span)) → f.numbers ≡ callee_numbers params args → f.wires.items ≡ scope ∷ []

@@ -2,17 +2,13 @@
 use Rattle.std.proofs.Common.{◌≡◌, suc, ◌+◌, ◌*◌, ◌<◌, ◌≤◌, length, Option, Some, None, Result, Ok, Err, refl, ap, arith}
 use Rattle.std.specs.Prelude.{OnOk, IfOk}
 use Rattle.sc_base.specs.declared.Place.{Place}
-use Rattle.sc_gate.specs.declared.gate.Wire.{Wire}
-use Rattle.sc_gate.specs.declared.gate.Kind.{Kind}
-use Rattle.sc_gate.specs.declared.gate.Kind.TheVariants as kind
 use Rattle.sc_gate.specs.declared.gate.Gate.{Gate}
-use Rattle.sc_tables.specs.Replacing.{replaced_on}
 use Rattle.sc_deck.specs.Bodies.{Contents}
 use Rattle.sc_deck.specs.Turns.{last_turns}
 use Rattle.sc_meaning.specs.declared.choice.Choice.{Choice}
-use Rattle.sc_meaning.specs.declared.choice.Choice.TheVariants.{Keep, Replace}
 use Rattle.sc_meaning.specs.Instances.{chosen}
 use Rattle.sc_meaning.specs.States.{State, with_scope, without_scope}
+use Rattle.sc_meaning.proofs.GateShapes.{few_chosen}
 use Rattle.sc_elab.specs.declared.frame.Frame.{Frame}
 use Rattle.sc_elab.specs.declared.todo.Request.{Request}
 use Rattle.sc_elab.specs.Folding.{HasRoom, HasRoomFor}
@@ -21,36 +17,6 @@ use Rattle.sc_elab.specs.Stepping.{Steps}
 use Rattle.sc_elab.proofs.LoopParts.{stepped_body}
 use Rattle.sc_elab.proofs.PushedGates.{pushed, turns_behind}
 use Rattle.sc_elab.proofs.StatementParts.{step_down, scope_room}
-
--- ---- gates that stand for one
-
-few_on : (gate : Gate) (k : Kind) (b c : Option Wire) → length (replaced_on gate k b c) < 64
-few_on gate kind.Toffoli (Some b) (Some c) = omega arith
-few_on gate kind.Toffoli (Some b) None = omega arith
-few_on gate kind.Toffoli None c = omega arith
-few_on gate kind.Fredkin (Some b) (Some c) = omega arith
-few_on gate kind.Fredkin (Some b) None = omega arith
-few_on gate kind.Fredkin None c = omega arith
-few_on gate kind.X b c = omega arith
-few_on gate kind.Y b c = omega arith
-few_on gate kind.Z b c = omega arith
-few_on gate kind.H b c = omega arith
-few_on gate kind.S b c = omega arith
-few_on gate kind.T b c = omega arith
-few_on gate kind.Sdag b c = omega arith
-few_on gate kind.Tdag b c = omega arith
-few_on gate kind.Cnot b c = omega arith
-few_on gate (kind.Rx angle) b c = omega arith
-few_on gate (kind.Ry angle) b c = omega arith
-few_on gate (kind.Rz angle) b c = omega arith
-few_on gate (kind.PrepX start) b c = omega arith
-few_on gate (kind.PrepZ start) b c = omega arith
-few_on gate kind.MeasX b c = omega arith
-few_on gate kind.MeasZ b c = omega arith
-
-pub few_chosen : (choice : Choice) (gate : Gate) → length (chosen choice gate) < 64
-few_chosen Keep gate = omega arith
-few_chosen Replace gate = few_on gate gate.kind gate.b gate.c
 
 pub turns_chosen : (choice : Choice) (gate : Gate) (body new : Contents) → new ≡ record body { items = pushed body.items (chosen choice gate) } → last_turns new.items < last_turns body.items + 64
 turns_chosen choice gate body new same = omega (arith, few_chosen choice gate, turns_behind body new (chosen choice gate) same)

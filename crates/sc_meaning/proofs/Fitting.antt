@@ -55,7 +55,7 @@ pub record Defines (taken : Taken) (parts : List PurePart) (t : List ℕ) (d : D
   pub is : d ≡ definition_of from typed
   pub fine : IsAcceptedPart taken from typed
 
-defines : (taken : Taken) (ps : List PurePart) (ws : List (Option TypedWords)) → AreAccepted taken ps ws → (t : List ℕ) (d : Definition)
+pub defines : (taken : Taken) (ps : List PurePart) (ws : List (Option TypedWords)) → AreAccepted taken ps ws → (t : List ℕ) (d : Definition)
     → definition (definitions ps ws) t ≡ Some d → Defines taken ps t d
 defines taken [] [] fine t d e = absurd cc
 defines taken [] (w ∷ ws) fine t d e = absurd fine
@@ -133,7 +133,7 @@ function_there t fit =
     let n : fn_wires t ≡ sum (t.params ++ t.returned.width ∷ []) + fn_scratch t = omega arith in
     subst (λ (k : ℕ). GatesThere (only_qubits k) (gates_of t)) n (gates_there (only_qubits (fn_wires t)) (gates_of t) fit)
 
-function_gates : (taken : Taken) (p : PurePart) (w : Option TypedWords) → IsAcceptedPart taken p w → (name : Name) (f : Function) → of_function name f ≡ definition_of p w
+pub function_gates : (taken : Taken) (p : PurePart) (w : Option TypedWords) → IsAcceptedPart taken p w → (name : Name) (f : Function) → of_function name f ≡ definition_of p w
     → GatesThere (only_qubits (sum f.widths + f.scratch)) f.gates
 function_gates taken (PurePart.of_module n ps body) w fine name f e = absurd cc
 function_gates taken (PurePart.of_words n ps width binds result) None fine name f e = absurd fine
@@ -168,7 +168,7 @@ source_fits t i h = accepted_fits t (checked_accepted t i h)
 -- ---- main
 
 -- a part that is found, by its position
-found_at : (ps : List Part) (t : List ℕ) (p : PurePart) → find (λ p. same t (part_name p)) (map pure_part ps) ≡ Some p
+pub found_at : (ps : List Part) (t : List ℕ) (p : PurePart) → find (λ p. same t (part_name p)) (map pure_part ps) ≡ Some p
     → (j : ℕ) × (q : Part) × (slice_get ps j ≡ Some q) × (p ≡ pure_part q) × (t ≡ part_name (pure_part q))
 found_at [] t p e = absurd cc
 found_at (q ∷ ps) t p e = by (same t (part_name (pure_part q))) refl e (found_at ps t p)

@@ -104,7 +104,7 @@ front_if : (b : Bool) (n m k : ℕ) → cond b 0 (suc n) < suc k → (n < k → 
 front_if true n m k h f = refl
 front_if false n m k h f = ap suc (f (omega arith))
 
-number_front : (deck more : List Module) (key : Key) → In deck key → number_in_deck (deck ++ more) key ≡ number_in_deck deck key
+pub number_front : (deck more : List Module) (key : Key) → In deck key → number_in_deck (deck ++ more) key ≡ number_in_deck deck key
 number_front [] more key h = absurd (omega arith)
 number_front (m ∷ deck) more key h = front_if (same_key m.key key) (number_in_deck deck key) (number_in_deck (deck ++ more) key) (length deck) h (number_front deck more key)
 
@@ -125,7 +125,7 @@ with_same_by deck key items h (inr (i, w)) = absurd (omega arith)
 pub with_same : (deck : List Module) (key : Key) (items : List Item) → In deck key → with_module deck key items ≡ deck
 with_same deck key items h = with_same_by deck key items h (adds deck key items)
 
-new_number : (deck : List Module) (key : Key) (items : List Item) → number_in_deck deck key ≡ length deck → number_in_deck (pushed deck key items) key ≡ length deck
+pub new_number : (deck : List Module) (key : Key) (items : List Item) → number_in_deck deck key ≡ length deck → number_in_deck (pushed deck key items) key ≡ length deck
 new_number deck key items n =
     let e : number_in_deck (pushed deck key items) key ≡ length deck + 0 =
     number_end deck (record { key = key; items = items } ∷ []) key n ∙ ap (λ (b : Bool). length deck + cond b 0 1) (same_self key) in

@@ -49,7 +49,7 @@ use Rattle.sc_meaning.proofs.MoveTypes.{ok_then, AllWanted, AllMean, gates_mean,
 use Rattle.sc_meaning.proofs.MoveValues.{moved_state, moved_passed, moved_all, args_moved, wires_moved, HasFirst, prepared_moved, called_moved, measured_moved}
 use Rattle.sc_meaning.proofs.Moving.{entered-append, Moves, moves_none, moves_then, moves_fresh, moves_gate}
 use Rattle.sc_meaning.proofs.Places.{Fine, Ahead, ahead_more, fine_later, there_append, there_fresh, fine_more, placed_fresh}
-use Rattle.sc_meaning.proofs.Scoped.{moved, with_moved, drop_moved, AllHeld, with_held, held_later, drop_held, moved_more, IsWireOf, Suits, suits_scope, suits_left, suits_wires, suits_number}
+use Rattle.sc_meaning.proofs.Scoped.{moved, with_moved, drop_moved, AllHeld, with_held, held_later, drop_held, moved_more, IsWireOf, Suits, suits_scope, suits_left, suits_wires, suits_number, numbers_free}
 
 -- the state of a body whose wires stand at these places, where its names stand for what this stack says
 pub record Sound (stack : Stack) (places : List Wire) (next : Numbers) (s : State) : Type 0 where
@@ -117,7 +117,7 @@ gate_passed own g n ps h = let b = gate_begins g n in first_passed own Q b.0 ps 
 
 -- the gate of a call that fits is on wires that are there
 module _ (stack : Stack) (s : State) (own : Numbers) (suited : Suits stack s.wires) (held : AllHeld own s.wires) where
-  gate_facts : (g : GateName) (args : List PureExpr) → AllFit (kinds_in stack) (types.gate_wants g (length args)) args → (ps : List Passed)
+  pub gate_facts : (g : GateName) (args : List PureExpr) → AllFit (kinds_in stack) (types.gate_wants g (length args)) args → (ps : List Passed)
       → pass_all s (gate_wants g (length args)) args ≡ Ok ps → ArePassed own (gate_wants g (length args)) ps
   gate_facts g args fit ps is =
       pass_all_fits stack s own suited held (gate_wants g (length args)) args ps (gates_mean g (length args) (kinds_in stack) args fit) is
@@ -159,6 +159,60 @@ pub record Enters (program : Program) (own : Numbers) (name : List ℕ) (ps : Li
   pub distinct : AreDistinct (wires_of ps)
   pub fits : FitsBy (definition program name) (args_of ps)
   pub classes : map class_of (wires_of ps) ≡ param_classes (record { name = name; args = args_of ps })
+
+-- the parts of a preparation that is done
+pub record Prepares (s : State) (d : Definition) (args : List PureExpr) (ps : List Passed) : Type 0 where
+  pub lengths : List (Option ℤ)
+  pub passes : pass_all s (wants_of d) args ≡ Ok ps
+  pub stated : lengths_of d ps ≡ Ok lengths
+  pub same : of_lengths lengths ps ≡ Ok tt
+  pub apart : distinct_after [] ps ≡ Ok tt
+
+pub prepares : (s : State) (d : Definition) (args : List PureExpr) (ps : List Passed) → prepared s d args ≡ Ok ps → Prepares s d args ps
+prepares s d args ps e =
+    let x = ok_then (pass_all s (wants_of d) args) (λ ps. lengths_of d ps >>= λ ns. of_lengths ns ps >>= λ _. distinct_after [] ps >>= λ _. Ok ps) ps e in
+    let y = ok_then (lengths_of d x.0) (λ ns. of_lengths ns x.0 >>= λ _. distinct_after [] x.0 >>= λ _. Ok x.0) ps x.2 in
+    let z = ok_then (of_lengths y.0 x.0) (λ _. distinct_after [] x.0 >>= λ _. Ok x.0) ps y.2 in
+    let w = ok_then (distinct_after [] x.0) (λ _. Ok x.0) ps z.2 in
+    let q : x.0 ≡ ps = cc (w.2) in
+    subst (Prepares s d args) q (record { lengths = y.0; passes = x.1; stated = y.1; same = z.1; apart = w.1 })
+
+pub prepared_enters : (program : Program) (stack : Stack) (s : State) (t : List ℕ) (d : Definition) (args : List PureExpr) → Suits stack s.wires → AllHeld s.next s.wires
+    → definition program t ≡ Some d → AllWanted (kinds_in stack) (wants_of d) args → (ps : List Passed) → prepared s d args ≡ Ok ps → Enters program s.next t ps
+prepared_enters program stack s t d args suited held is fit ps e =
+    let x = prepares s d args ps e in
+    let facts = pass_all_fits stack s s.next suited held (wants_of d) args ps fit x.passes in
+    record {
+      there = passed_wires s.next (wants_of d) ps facts;
+      distinct = passed_distinct s.next (wants_of d) ps facts x.apart;
+      fits = subst (λ (o : Option Definition). FitsBy o (args_of ps)) (sym is) (fits_of s.next d ps x.lengths facts x.stated x.same);
+      classes = passed_classes s.next (wants_of d) ps facts;
+    }
+
+-- ---- wires that are made
+
+pub many_made : (c : Class) (first n : ℕ) → IsWireOf (kind.Many c) (wires_from c first n)
+many_made c first zero = refl
+many_made c first (suc n) = ap (λ (cs : List Class). c ∷ cs) (many_made c (suc first) n)
+
+pub one_made : (c : Class) (k first : ℕ) → pos 1 ≡ pos (suc k) → IsWireOf (kind.One c) (wires_from c first (suc k))
+one_made c zero first e = refl
+one_made c (suc k) first e = let q : 1 ≡ suc (suc k) = cc in absurd (omega arith)
+
+-- ---- the names behind the advance of a loop
+
+pub advance_keeps : (here : List Known) (held : PureHeld) → IsAdvance held → names_held here held ≡ here
+advance_keeps here PureHeld.absent h = refl
+advance_keeps here (PureHeld.held p (PureAct.set name o at value)) h = refl
+advance_keeps here (PureHeld.held p (PureAct.measure g into from)) h = refl
+advance_keeps here (PureHeld.held p (PureAct.wires c ds)) h = absurd h
+advance_keeps here (PureHeld.held p (PureAct.numbers sort ds)) h = absurd h
+advance_keeps here (PureHeld.held p (PureAct.call c at args)) h = absurd h
+advance_keeps here (PureHeld.held p (PureAct.if_else e q a other)) h = absurd h
+advance_keeps here (PureHeld.held p (PureAct.while_loop e q a)) h = absurd h
+advance_keeps here (PureHeld.held p (PureAct.for_loop start test advance q a)) h = absurd h
+advance_keeps here (PureHeld.held p (PureAct.block row)) h = absurd h
+advance_keeps here (PureHeld.held p PureAct.empty) h = absurd h
 
 module _ (program : Program) (choice : Choice) (E : Key → List Wire → Numbers → List Event) where
   -- what a part does in local numbers, and in the whole run
@@ -238,7 +292,7 @@ module _ (program : Program) (choice : Choice) (E : Key → List Wire → Number
         n',
         a,
         ap without_scope e ∙ (λ i. record (moved_state (placed p') n' (without_scope s)) { wires = wires i }),
-        record { fine = c.fine; held = drop_held s.next s.wires c.held; suits = suits_left here outer s.wires c.suits },
+        record { fine = c.fine; held = drop_held s.next s.wires c.held; suits = suits_left IsWireOf here outer s.wires c.suits },
       )
   left_by here outer (Stopped l f) (Stopped g h) p n k = k
   left_by here outer (Done l s) (Stopped g h) p n k = absurd k
@@ -247,7 +301,7 @@ module _ (program : Program) (choice : Choice) (E : Key → List Wire → Number
   move_inside : (here : List Known) (outer : Stack) (go go' : State → Outcome State) → AllMove ([] ∷ outer) (here ∷ outer) go go' → AllMove outer outer (inside go) (inside go')
   move_inside here outer go go' h p n s c = record {
     holds = left_by here outer (go (with_scope s)) (go' (with_scope (moved_state (placed p) n s))) p n
-        (h p n (with_scope s) (record { fine = c.fine; held = (tt, c.held); suits = suits_scope outer s.wires c.suits })).holds;
+        (h p n (with_scope s) (record { fine = c.fine; held = (tt, c.held); suits = suits_scope IsWireOf outer s.wires c.suits })).holds;
   }
 
   move_truth : (b : Bool) (stack : Stack) (first first' second second' : State → Outcome State) → AllMove stack stack first first' → AllMove stack stack second second'
@@ -281,10 +335,6 @@ module _ (program : Program) (choice : Choice) (E : Key → List Wire → Number
 
   -- ---- declarations
 
-  many_made : (c : Class) (first n : ℕ) → IsWireOf (kind.Many c) (wires_from c first n)
-  many_made c first zero = refl
-  many_made c first (suc n) = ap (λ (cs : List Class). c ∷ cs) (many_made c (suc first) n)
-
   made_if : (b : Bool) (c : Class) (name : Name) (k : ℕ) (kd : NameKind) (here : List Known) (outer : Stack) (p : List Wire) (n : Numbers) (s : State)
       → Sound (here ∷ outer) p n s → IsNew here name → ((first : ℕ) → IsWireOf kd (wires_from c first (suc k)))
       → Move (with_name here name kd ∷ outer)
@@ -310,7 +360,7 @@ module _ (program : Program) (choice : Choice) (E : Key → List Wire → Number
             fine = fine_more p s.next n c m sound.fine;
             held = with_held (with_more c m s.next) s.wires name.text own (held_later s.next (with_more c m s.next) (ahead_more c m s.next) s.wires sound.held)
                 (there_fresh c m s.next, distinct_span c (number_of c s.next) m);
-            suits = suits_wires here outer s.wires name kd own sound.suits new (is (number_of c s.next));
+            suits = suits_wires IsWireOf here outer s.wires name kd own sound.suits new (is (number_of c s.next));
           },
         );
       }
@@ -322,10 +372,6 @@ module _ (program : Program) (choice : Choice) (E : Key → List Wire → Number
   move_make c name (pos (suc k)) kd here outer p n s sound new is =
       made_if (nat_le (s.width + suc k) 65536) c name k kd here outer p n s sound new (λ first. is k first refl)
   move_make c name (negsuc k) kd here outer p n s sound new is = move_stop (with_name here name kd ∷ outer) (BadSize name.place) p n
-
-  one_made : (c : Class) (k first : ℕ) → pos 1 ≡ pos (suc k) → IsWireOf (kind.One c) (wires_from c first (suc k))
-  one_made c zero first e = refl
-  one_made c (suc k) first e = let q : 1 ≡ suc (suc k) = cc in absurd (omega arith)
 
   move_decl : (c : Class) (name : Name) (value : Option PureExpr) (here : List Known) (outer : Stack) (p : List Wire) (n : Numbers) (s : State) → Sound (here ∷ outer) p n s → IsNew here name
       → Move (with_name here name (wire_kind c value) ∷ outer) (given (size_of s.numbers value) (λ z. make_wires c name z s)) (given (size_of s.numbers value) (λ z. make_wires c name z (moved_state (placed p) n s))) p n
@@ -352,7 +398,7 @@ module _ (program : Program) (choice : Choice) (E : Key → List Wire → Number
       move_given (with_numbers sort mid ds ∷ outer) (start_value s.numbers sort d.value)
       (λ x. declare_numbers sort ds (with_number d.name.text x s)) (λ x. declare_numbers sort ds (with_number d.name.text x (moved_state (placed p) n s))) p n
       (λ x. move_numbers sort outer mid ds fit.2 p n (with_number d.name.text x s)
-      (record { fine = sound.fine; held = sound.held; suits = suits_number here outer s.wires d.name sort sound.suits fit.1 }))
+      (record { fine = sound.fine; held = sound.held; suits = suits_number IsWireOf numbers_free here outer s.wires d.name sort sound.suits fit.1 }))
 
   -- ---- settings, gates and calls
 
@@ -420,22 +466,6 @@ module _ (program : Program) (choice : Choice) (E : Key → List Wire → Number
             (h.holds key (wires_of ps) s.next p s.next n sound.fine enters.there enters.distinct enters.fits enters.classes);
       })
 
-  prepared_enters : (stack : Stack) (p : List Wire) (n : Numbers) (s : State) (t : List ℕ) (d : Definition) (args : List PureExpr) → Sound stack p n s
-      → definition program t ≡ Some d → AllWanted (kinds_in stack) (wants_of d) args → (ps : List Passed) → prepared s d args ≡ Ok ps → Enters program s.next t ps
-  prepared_enters stack p n s t d args sound is fit ps e =
-      let x = ok_then (pass_all s (wants_of d) args) (λ ps. lengths_of d ps >>= λ ns. of_lengths ns ps >>= λ _. distinct_after [] ps >>= λ _. Ok ps) ps e in
-      let y = ok_then (lengths_of d x.0) (λ ns. of_lengths ns x.0 >>= λ _. distinct_after [] x.0 >>= λ _. Ok x.0) ps x.2 in
-      let z = ok_then (of_lengths y.0 x.0) (λ _. distinct_after [] x.0 >>= λ _. Ok x.0) ps y.2 in
-      let w = ok_then (distinct_after [] x.0) (λ _. Ok x.0) ps z.2 in
-      let q : x.0 ≡ ps = cc (w.2) in
-      let facts = pass_all_fits stack s s.next sound.suits sound.held (wants_of d) args x.0 fit x.1 in
-      subst (Enters program s.next t) q (record {
-        there = passed_wires s.next (wants_of d) x.0 facts;
-        distinct = passed_distinct s.next (wants_of d) x.0 facts w.1;
-        fits = subst (λ (o : Option Definition). FitsBy o (args_of x.0)) (sym is) (fits_of s.next d x.0 y.0 facts y.1 z.1);
-        classes = passed_classes s.next (wants_of d) x.0 facts;
-      })
-
   call_given : (lc gc : Callee) → CallMove lc gc → (name : List ℕ) (stack : Stack) (p : List Wire) (n : Numbers) (s : State) (r : Result (List Passed) ElabFault) → Sound stack p n s
       → ((ps : List Passed) → r ≡ Ok ps → Enters program s.next name ps)
       → Move stack (given r (enter_with lc name s)) (given (moved_all (placed p) r) (enter_with gc name (moved_state (placed p) n s))) p n
@@ -451,22 +481,9 @@ module _ (program : Program) (choice : Choice) (E : Key → List Wire → Number
       let same = prepared_moved p s.next n sound.fine s d args
       (λ ps e. passed_there s.next (wants_of d) ps (pass_all_fits stack s s.next sound.suits sound.held (wants_of d) args ps wanted e)) in
       subst (λ (r : Result (List Passed) ElabFault). Move stack (given (prepared s d args) (enter_with lc t s)) (given r (enter_with gc t t')) p n) (sym same)
-      (call_given lc gc h t stack p n s (prepared s d args) sound (prepared_enters stack p n s t d args sound is wanted))
+      (call_given lc gc h t stack p n s (prepared s d args) sound (prepared_enters program stack s t d args sound.suits sound.held is wanted))
 
   -- ---- statements
-
-  advance_keeps : (here : List Known) (held : PureHeld) → IsAdvance held → names_held here held ≡ here
-  advance_keeps here PureHeld.absent h = refl
-  advance_keeps here (PureHeld.held p (PureAct.set name o at value)) h = refl
-  advance_keeps here (PureHeld.held p (PureAct.measure g into from)) h = refl
-  advance_keeps here (PureHeld.held p (PureAct.wires c ds)) h = absurd h
-  advance_keeps here (PureHeld.held p (PureAct.numbers sort ds)) h = absurd h
-  advance_keeps here (PureHeld.held p (PureAct.call c at args)) h = absurd h
-  advance_keeps here (PureHeld.held p (PureAct.if_else e q a other)) h = absurd h
-  advance_keeps here (PureHeld.held p (PureAct.while_loop e q a)) h = absurd h
-  advance_keeps here (PureHeld.held p (PureAct.for_loop start test advance q a)) h = absurd h
-  advance_keeps here (PureHeld.held p (PureAct.block row)) h = absurd h
-  advance_keeps here (PureHeld.held p PureAct.empty) h = absurd h
 
   module _ (taken : Taken) (lc gc : Callee) (takes : AreTaken program taken) (calls : CallMove lc gc) where
     -- a body in a scope of its own

@@ -13,6 +13,7 @@ use Rattle.sc_gate.specs.Renaming.{rename_gate}
 use Rattle.sc_syntax.specs.declared.Name.{Name}
 use Rattle.sc_syntax.specs.declared.NameKind.{NameKind}
 use Rattle.sc_syntax.specs.declared.NameKind.TheVariants as kind
+use Rattle.sc_syntax.specs.declared.NumSort.{NumSort}
 use Rattle.sc_syntax.specs.declared.NumSort.TheVariants as num
 use Rattle.sc_syntax.specs.Alike.{PureSort, PureParam, PureStmts}
 use Rattle.sc_types.specs.Accepted.{IsNew as NameIsNew}
@@ -29,6 +30,7 @@ use Rattle.sc_deck.specs.Keys.{arg_classes, param_classes, params_of}
 use Rattle.sc_deck.specs.Unfolding.{placed, wires_from, numbered, of_class}
 use Rattle.sc_deck.specs.Placing.{Sized}
 use Rattle.sc_deck.specs.Renaming.{wire}
+use Rattle.sc_deck.proofs.CallLemmas.{all_one}
 use Rattle.sc_deck.proofs.PlaceLaws.{Sized-params, placed-classes, of_class-same, wires_from-at}
 use Rattle.sc_meaning.specs.declared.choice.Choice.{Choice}
 use Rattle.sc_meaning.specs.declared.fault.ElabFault.{ElabFault}
@@ -48,7 +50,7 @@ use Rattle.sc_meaning.proofs.MoveValues.{moved_state}
 use Rattle.sc_meaning.proofs.Moving.{Moves, moves_none, moves_then, moves_fresh, moves_gate, Placed, Inside, moves_call}
 use Rattle.sc_meaning.proofs.Places.{Fine, Ahead, there_later, parts_there, fine_more, fine_call, placed_numbered, numbered_there, numbered_classes, distinct_numbered}
 use Rattle.sc_meaning.proofs.Spanned.{length_made}
-use Rattle.sc_meaning.proofs.Scoped.{moved, with_moved, AreHeld, AllHeld, with_held, Suits, suits_wires, suits_number}
+use Rattle.sc_meaning.proofs.Scoped.{moved, with_moved, AreHeld, AllHeld, with_held, IsWireOf, SuitsBy, suits_wires, suits_number, numbers_free}
 
 -- ---- parameters
 
@@ -87,7 +89,7 @@ drop_wires_held own zero ws held = held
 drop_wires_held own (suc n) [] held = (tt, tt)
 drop_wires_held own (suc n) (w ∷ ws) held = drop_wires_held own n ws (held.0.1, held.1.1)
 
-params_held : (own : Numbers) (ps : List PureParam) (args : List Arg) (ws : List Wire) (scopes : List Wired) → AreHeld own ws → AllHeld own scopes → AllHeld own (wire_params ps args ws scopes)
+pub params_held : (own : Numbers) (ps : List PureParam) (args : List Arg) (ws : List Wire) (scopes : List Wired) → AreHeld own ws → AllHeld own scopes → AllHeld own (wire_params ps args ws scopes)
 params_held own [] args ws scopes held all = all
 params_held own (p ∷ ps) [] ws scopes held all = all
 params_held own (p ∷ ps) (arg.Int n ∷ args) ws scopes held all = params_held own ps args ws scopes held all
@@ -98,8 +100,7 @@ params_held own (p ∷ ps) (arg.Many c n ∷ args) ws scopes held all =
     params_held own ps args (drop n ws) (with_wires scopes p.name.text (take n ws)) (drop_wires_held own n ws held) (with_held own scopes p.name.text (take n ws) all (take_held own n ws held))
 
 -- the wires of the first argument, and the others
-split_many : (n : ℕ) (c : Class) (rest : List Class) (ws : List Wire) → map class_of ws ≡ replicate n c ++ rest
-    → (map class_of (take n ws) ≡ replicate (length (take n ws)) c) × (map class_of (drop n ws) ≡ rest)
+split_many : (n : ℕ) (c : Class) (rest : List Class) (ws : List Wire) → map class_of ws ≡ replicate n c ++ rest → (map class_of (take n ws) ≡ replicate n c) × (map class_of (drop n ws) ≡ rest)
 split_many zero c rest ws e = (refl, e)
 split_many (suc n) c rest [] e = absurd cc
 split_many (suc n) c rest (w ∷ ws) e =
@@ -115,49 +116,64 @@ split_one c rest (w ∷ ws) e =
     let tail : map class_of ws ≡ rest = cc in
     (ap (λ (d : Class). d ∷ []) first, tail)
 
--- what the parameters after one still need
-abbrev ParamsSuit : List PureParam → Type 0
-ParamsSuit ps =
-    (here : List Known) (args : List Arg) (ws : List Wire) (scopes : List Wired) → AreParams here ps → AreArgsOf (map (λ p. want_of p.sort) ps) args
-    → map class_of ws ≡ flat_map arg_classes args → Suits (here ∷ []) scopes → Suits (with_params here ps ∷ []) (wire_params ps args ws scopes)
+-- What is said of wires by their kinds (P) is so of those that arguments stand for, of which something is known (K).
+pub record Fills (P : NameKind → List Wire → Type 0) (K : Arg → Type 0) : Type 0 where
+  pub number : (s : NumSort) (ws : List Wire) → P (kind.Number s) ws
+  pub one : (c : Class) (ws : List Wire) → map class_of ws ≡ c ∷ [] → P (kind.One c) ws
+  pub many : (c : Class) (n : ℕ) (ws : List Wire) → K (arg.Many c n) → map class_of ws ≡ replicate n c → P (kind.Many c) ws
 
-number_param : (name : Name) (sort : PureSort) (s : _) (ps : List PureParam) → param_kind sort ≡ kind.Number s → ParamsSuit ps → (here : List Known) (x : Value) (args : List Arg) (ws : List Wire) (scopes : List Wired)
-    → NameIsNew here name → AreParams (with_name here name (param_kind sort)) ps → AreArgsOf (map (λ p. want_of p.sort) ps) args
-    → map class_of ws ≡ arg_classes (number_arg x) ++ flat_map arg_classes args → Suits (here ∷ []) scopes
-    → Suits (with_params (with_name here name (param_kind sort)) ps ∷ []) (wire_params (record { name = name; sort = sort } ∷ ps) (number_arg x ∷ args) ws scopes)
-number_param name sort s ps is rest here (v.Int n) args ws scopes new more fits classes suits =
-    rest (with_name here name (param_kind sort)) args ws scopes more fits classes
-    (subst (λ (k : NameKind). Suits (with_name here name k ∷ []) scopes) (sym is) (suits_number here [] scopes name s suits new))
-number_param name sort s ps is rest here (v.Double d) args ws scopes new more fits classes suits =
-    rest (with_name here name (param_kind sort)) args ws scopes more fits classes
-    (subst (λ (k : NameKind). Suits (with_name here name k ∷ []) scopes) (sym is) (suits_number here [] scopes name s suits new))
+module _ (P : NameKind → List Wire → Type 0) (K : Arg → Type 0) (fills : Fills P K) where
+  -- what the parameters after one still need
+  abbrev ParamsSuit : List PureParam → Type 0
+  ParamsSuit ps =
+      (here : List Known) (args : List Arg) (ws : List Wire) (scopes : List Wired) → AreParams here ps → AreArgsOf (map (λ p. want_of p.sort) ps) args → AllByRecursion K args
+      → map class_of ws ≡ flat_map arg_classes args → SuitsBy P (here ∷ []) scopes → SuitsBy P (with_params here ps ∷ []) (wire_params ps args ws scopes)
 
-one_param : (name : Name) (sort : PureSort) (ps : List PureParam) → ParamsSuit ps → (here : List Known) (a : Arg) (args : List Arg) (ws : List Wire) (scopes : List Wired)
-    → NameIsNew here name → AreParams (with_name here name (param_kind sort)) ps → IsArgOf (want_of sort) a → AreArgsOf (map (λ p. want_of p.sort) ps) args
-    → map class_of ws ≡ arg_classes a ++ flat_map arg_classes args → Suits (here ∷ []) scopes
-    → Suits (with_params (with_name here name (param_kind sort)) ps ∷ []) (wire_params (record { name = name; sort = sort } ∷ ps) (a ∷ args) ws scopes)
-one_param name (PureSort.one c) ps rest here a args ws scopes new more is fits classes suits =
-    let split = split_one c (flat_map arg_classes args) ws (classes ∙ ap (λ (b : Arg). arg_classes b ++ flat_map arg_classes args) is) in
-    subst (λ (b : Arg). Suits (with_params (with_name here name (kind.One c)) ps ∷ []) (wire_params (record { name = name; sort = PureSort.one c } ∷ ps) (b ∷ args) ws scopes)) (sym is)
-    (rest (with_name here name (kind.One c)) args (drop 1 ws) (with_wires scopes name.text (take 1 ws)) more fits split.1
-    (suits_wires here [] scopes name (kind.One c) (take 1 ws) suits new split.0))
-one_param name (PureSort.many c e) ps rest here a args ws scopes new more (n, is) fits classes suits =
-    let split = split_many n c (flat_map arg_classes args) ws (classes ∙ ap (λ (b : Arg). arg_classes b ++ flat_map arg_classes args) is) in
-    subst (λ (b : Arg). Suits (with_params (with_name here name (kind.Many c)) ps ∷ []) (wire_params (record { name = name; sort = PureSort.many c e } ∷ ps) (b ∷ args) ws scopes)) (sym is)
-    (rest (with_name here name (kind.Many c)) args (drop n ws) (with_wires scopes name.text (take n ws)) more fits split.1
-    (suits_wires here [] scopes name (kind.Many c) (take n ws) suits new split.0))
-one_param name PureSort.int ps rest here a args ws scopes new more (x, is) fits classes suits =
-    subst (λ (b : Arg). Suits (with_params (with_name here name (kind.Number num.Int)) ps ∷ []) (wire_params (record { name = name; sort = PureSort.int } ∷ ps) (b ∷ args) ws scopes)) (sym is)
-    (number_param name PureSort.int num.Int ps refl rest here x args ws scopes new more fits (classes ∙ ap (λ (b : Arg). arg_classes b ++ flat_map arg_classes args) is) suits)
-one_param name PureSort.double ps rest here a args ws scopes new more (x, is) fits classes suits =
-    subst (λ (b : Arg). Suits (with_params (with_name here name (kind.Number num.Double)) ps ∷ []) (wire_params (record { name = name; sort = PureSort.double } ∷ ps) (b ∷ args) ws scopes)) (sym is)
-    (number_param name PureSort.double num.Double ps refl rest here x args ws scopes new more fits (classes ∙ ap (λ (b : Arg). arg_classes b ++ flat_map arg_classes args) is) suits)
+  number_param : (name : Name) (sort : PureSort) (s : _) (ps : List PureParam) → param_kind sort ≡ kind.Number s → ParamsSuit ps → (here : List Known) (x : Value) (args : List Arg) (ws : List Wire) (scopes : List Wired)
+      → NameIsNew here name → AreParams (with_name here name (param_kind sort)) ps → AreArgsOf (map (λ p. want_of p.sort) ps) args → AllByRecursion K args
+      → map class_of ws ≡ arg_classes (number_arg x) ++ flat_map arg_classes args → SuitsBy P (here ∷ []) scopes
+      → SuitsBy P (with_params (with_name here name (param_kind sort)) ps ∷ []) (wire_params (record { name = name; sort = sort } ∷ ps) (number_arg x ∷ args) ws scopes)
+  number_param name sort s ps is rest here (v.Int n) args ws scopes new more fits known classes suits =
+      rest (with_name here name (param_kind sort)) args ws scopes more fits known classes
+      (subst (λ (k : NameKind). SuitsBy P (with_name here name k ∷ []) scopes) (sym is) (suits_number P fills.number here [] scopes name s suits new))
+  number_param name sort s ps is rest here (v.Double d) args ws scopes new more fits known classes suits =
+      rest (with_name here name (param_kind sort)) args ws scopes more fits known classes
+      (subst (λ (k : NameKind). SuitsBy P (with_name here name k ∷ []) scopes) (sym is) (suits_number P fills.number here [] scopes name s suits new))
 
-params_suit : (ps : List PureParam) → ParamsSuit ps
-params_suit [] here args ws scopes params fits classes suits = suits
-params_suit (p ∷ ps) here [] ws scopes params fits classes suits = absurd fits
-params_suit (p ∷ ps) here (a ∷ args) ws scopes params fits classes suits =
-    one_param p.name p.sort ps (params_suit ps) here a args ws scopes params.1 params.2 fits.0 fits.1 classes suits
+  one_param : (name : Name) (sort : PureSort) (ps : List PureParam) → ParamsSuit ps → (here : List Known) (a : Arg) (args : List Arg) (ws : List Wire) (scopes : List Wired)
+      → NameIsNew here name → AreParams (with_name here name (param_kind sort)) ps → IsArgOf (want_of sort) a → AreArgsOf (map (λ p. want_of p.sort) ps) args → K a → AllByRecursion K args
+      → map class_of ws ≡ arg_classes a ++ flat_map arg_classes args → SuitsBy P (here ∷ []) scopes
+      → SuitsBy P (with_params (with_name here name (param_kind sort)) ps ∷ []) (wire_params (record { name = name; sort = sort } ∷ ps) (a ∷ args) ws scopes)
+  one_param name (PureSort.one c) ps rest here a args ws scopes new more is fits k known classes suits =
+      let split = split_one c (flat_map arg_classes args) ws (classes ∙ ap (λ (b : Arg). arg_classes b ++ flat_map arg_classes args) is) in
+      subst (λ (b : Arg). SuitsBy P (with_params (with_name here name (kind.One c)) ps ∷ []) (wire_params (record { name = name; sort = PureSort.one c } ∷ ps) (b ∷ args) ws scopes)) (sym is)
+      (rest (with_name here name (kind.One c)) args (drop 1 ws) (with_wires scopes name.text (take 1 ws)) more fits known split.1
+      (suits_wires P here [] scopes name (kind.One c) (take 1 ws) suits new (fills.one c (take 1 ws) split.0)))
+  one_param name (PureSort.many c e) ps rest here a args ws scopes new more (n, is) fits k known classes suits =
+      let split = split_many n c (flat_map arg_classes args) ws (classes ∙ ap (λ (b : Arg). arg_classes b ++ flat_map arg_classes args) is) in
+      subst (λ (b : Arg). SuitsBy P (with_params (with_name here name (kind.Many c)) ps ∷ []) (wire_params (record { name = name; sort = PureSort.many c e } ∷ ps) (b ∷ args) ws scopes)) (sym is)
+      (rest (with_name here name (kind.Many c)) args (drop n ws) (with_wires scopes name.text (take n ws)) more fits known split.1
+      (suits_wires P here [] scopes name (kind.Many c) (take n ws) suits new (fills.many c n (take n ws) (subst K is k) split.0)))
+  one_param name PureSort.int ps rest here a args ws scopes new more (x, is) fits k known classes suits =
+      subst (λ (b : Arg). SuitsBy P (with_params (with_name here name (kind.Number num.Int)) ps ∷ []) (wire_params (record { name = name; sort = PureSort.int } ∷ ps) (b ∷ args) ws scopes)) (sym is)
+      (number_param name PureSort.int num.Int ps refl rest here x args ws scopes new more fits known (classes ∙ ap (λ (b : Arg). arg_classes b ++ flat_map arg_classes args) is) suits)
+  one_param name PureSort.double ps rest here a args ws scopes new more (x, is) fits k known classes suits =
+      subst (λ (b : Arg). SuitsBy P (with_params (with_name here name (kind.Number num.Double)) ps ∷ []) (wire_params (record { name = name; sort = PureSort.double } ∷ ps) (b ∷ args) ws scopes)) (sym is)
+      (number_param name PureSort.double num.Double ps refl rest here x args ws scopes new more fits known (classes ∙ ap (λ (b : Arg). arg_classes b ++ flat_map arg_classes args) is) suits)
+
+  pub params_suit : (ps : List PureParam) → ParamsSuit ps
+  params_suit [] here args ws scopes params fits known classes suits = suits
+  params_suit (p ∷ ps) here [] ws scopes params fits known classes suits = absurd fits
+  params_suit (p ∷ ps) here (a ∷ args) ws scopes params fits known classes suits =
+      one_param p.name p.sort ps (params_suit ps) here a args ws scopes params.1 params.2 fits.0 fits.1 known.0 known.1 classes suits
+
+-- the classes of wires need nothing of arguments
+classes_fill : Fills IsWireOf (λ a. Unit {0})
+classes_fill = record { number = numbers_free; one = λ c ws e. e; many = λ c n ws k e. all_one ws c n e }
+
+none_known : (args : List Arg) → AllByRecursion (λ (a : Arg). Unit {0}) args
+none_known [] = tt
+none_known (a ∷ args) = (tt, none_known args)
 
 -- ---- bodies
 
@@ -169,7 +185,7 @@ start_sound params key wires next passes fine fits =
     record {
       fine = record { sized = Sized-params wires key passes.classes; distinct = passes.distinct; below = passes.below };
       held = params_held (params_of key) params key.args own ([] ∷ []) (numbered_there key, distinct_numbered (param_classes key) no_wires) (tt, tt);
-      suits = params_suit params [] key.args own ([] ∷ []) fine fits (numbered_classes (param_classes key) no_wires) ((λ name. tt), tt);
+      suits = params_suit IsWireOf (λ a. Unit {0}) classes_fill params [] key.args own ([] ∷ []) fine fits (none_known key.args) (numbered_classes (param_classes key) no_wires) ((λ name. tt), tt);
     }
 
 start_moved : (params : List PureParam) (key : Key) (wires : List Wire) (next : Numbers) → Passes key wires next
@@ -259,6 +275,24 @@ gates_later : (a b : Numbers) → Ahead a b → (gates : List Gate) → GatesThe
 gates_later a b ahead [] there = tt
 gates_later a b ahead (g ∷ gates) there = (there_later a b ahead (operands g) there.0, gates_later a b ahead gates there.1)
 
+-- the gates of a classical function in the numbers of its own body
+pub own_function : (f : Function) (key : Key) → param_classes key ≡ replicate (sum f.widths) Q → GatesThere (only_qubits (sum f.widths + f.scratch)) f.gates
+    → map (λ g. Apply (rename_gate (placed (call_wires f (numbered (param_classes key) no_wires) (params_of key))) g)) f.gates ≡ map Apply f.gates
+own_function f key words there =
+    let m : ℕ = sum f.widths in
+    let k : ℕ = f.scratch in
+    let own : List Wire = numbered (param_classes key) no_wires in
+    let qubits : own ≡ wires_from Q 0 m = own_qubits m key words in
+    let count : number_of Q (params_of key) ≡ m = function_sized f key words in
+    let first : (params_of key).qubits ≡ 0 + m = (let z : 0 + m ≡ m = omega arith in count ∙ sym z) in
+    let all : call_wires f own (params_of key) ≡ wires_from Q 0 (m + k) = (λ i. qubits i ++ wires_from Q (first i) k) ∙ wires_join Q 0 m k in
+    let same : (w : Wire) → IsThere (only_qubits (m + k)) w → placed (call_wires f own (params_of key)) w ≡ w = λ w h. ap (λ (ps : List Wire). placed ps w) all ∙ placed_qubits (m + k) w h in
+    gates_same (placed (call_wires f own (params_of key))) (only_qubits (m + k)) same f.gates there
+
+pub qubits_ahead : (m k : ℕ) (n : Numbers) → number_of Q n ≡ m → Ahead (only_qubits (m + k)) (with_more Q k n)
+qubits_ahead m k n e Q = omega arith
+qubits_ahead m k n e C = omega arith
+
 -- WHAT THE CHECKS GIVE of a program: what a name calls takes what is passed, the bodies of modules are accepted, and the gates of
 -- classical functions are on qubits of their own
 pub record IsFit (program : Program) (taken : Taken) : Type 0 where
@@ -323,13 +357,9 @@ module _ (program : Program) (choice : Choice) (E : Key → List Wire → Number
       let m : ℕ = sum f.widths in
       let k : ℕ = f.scratch in
       let own : List Wire = numbered (param_classes key) no_wires in
-      let qubits : own ≡ wires_from Q 0 m = own_qubits m key words in
       let count : number_of Q (params_of key) ≡ m = function_sized f key words in
-      let first : (params_of key).qubits ≡ 0 + m = (let z : 0 + m ≡ m = omega arith in count ∙ sym z) in
-      let local_places : List Wire = own ++ wires_from Q (params_of key).qubits k in
-      let all : local_places ≡ wires_from Q 0 (m + k) = (λ i. qubits i ++ wires_from Q (first i) k) ∙ wires_join Q 0 m k in
-      let same : (w : Wire) → IsThere (only_qubits (m + k)) w → placed local_places w ≡ w = λ w h. ap (λ (ps : List Wire). placed ps w) all ∙ placed_qubits (m + k) w h in
-      let events : map (λ g. Apply (rename_gate (placed local_places) g)) f.gates ≡ map Apply f.gates = gates_same (placed local_places) (only_qubits (m + k)) same f.gates there in
+      let local_places : List Wire = call_wires f own (params_of key) in
+      let events : map (λ g. Apply (rename_gate (placed local_places) g)) f.gates ≡ map Apply f.gates = own_function f key words there in
       let places : List Wire = wires ++ wires_from Q next.qubits k in
       let inner : Numbers = with_more Q k (params_of key) in
       let fine : Fine places inner (with_more Q k next) =
@@ -348,10 +378,6 @@ module _ (program : Program) (choice : Choice) (E : Key → List Wire → Number
       (cond (nat_le n 65536) (Done (fresh_scratch k ++ map (λ g. Apply (rename_gate (placed places) g)) f.gates) (with_more Q k next)) (Stopped [] (TooWide name.place))) wires next) widths
       (function_if (nat_le (length local_places) 65536) (fresh_scratch k ++ map (λ g. Apply (rename_gate (placed local_places) g)) f.gates)
       (fresh_scratch k ++ map (λ g. Apply (rename_gate (placed places) g)) f.gates) (with_more Q k (params_of key)) (with_more Q k next) (TooWide name.place) wires next places moves)
-    where
-      qubits_ahead : (m k : ℕ) (n : Numbers) → number_of Q n ≡ m → Ahead (only_qubits (m + k)) (with_more Q k n)
-      qubits_ahead m k n e Q = omega arith
-      qubits_ahead m k n e C = omega arith
 
   -- ---- bodies and enterings
 

@@ -43,7 +43,7 @@ use Rattle.sc_meaning.specs.Values.{◌>>=◌, wanted, whole_number, there, elem
 use Rattle.sc_meaning.proofs.Distinct.{EachDistinct}
 use Rattle.sc_meaning.proofs.MoveValues.{AllThere, HasFirst}
 use Rattle.sc_meaning.proofs.Places.{there_append, new_append}
-use Rattle.sc_meaning.proofs.Scoped.{AreHeld, AllHeld, named_held, IsKnown, Suits, suits_name}
+use Rattle.sc_meaning.proofs.Scoped.{AreHeld, AllHeld, named_held, IsWireOf, numbers_free, IsKnown, Suits, suits_name}
 
 -- what goes on with a value has that value
 pub ok_then : {A B : Type 0} (r : Result A ElabFault) (go : A → Result B ElabFault) (b : B) → (r >>= go) ≡ Ok b → (a : A) × (r ≡ Ok a) × (go a ≡ Ok b)
@@ -278,7 +278,7 @@ there_is : (at : Place) (o : Option Wire) (vs : List Wire) → there at o ≡ Ok
 there_is at None vs e = absurd cc
 there_is at (Some w) vs e = let q : w ∷ [] ≡ vs = cc in (w, refl, sym q)
 
-element_is : (at : Place) (ws : List Wire) (i : ℤ) (vs : List Wire) → element at ws i ≡ Ok vs → (k : ℕ) × (w : Wire) × (slice_get ws k ≡ Some w) × (vs ≡ w ∷ [])
+pub element_is : (at : Place) (ws : List Wire) (i : ℤ) (vs : List Wire) → element at ws i ≡ Ok vs → (k : ℕ) × (w : Wire) × (slice_get ws k ≡ Some w) × (vs ≡ w ∷ [])
 element_is at ws (pos i) vs e = let h = there_is at (slice_get ws i) vs e in (i, h.0, h.1, h.2)
 element_is at ws (negsuc i) vs e = absurd cc
 
@@ -312,7 +312,7 @@ module _ (stack : Stack) (s : State) (own : Numbers) (suited : Suits stack s.wir
   argument_held at (PureNode.pick p1 n1 p2 n2 p3 n3) ws e = let q : [] ≡ ws = cc in subst (AreHeld own) q (tt, tt)
 
   known : (t : List ℕ) → IsKnown (kinds_in stack t) (wires_named s.wires t)
-  known t = suits_name stack s.wires suited t
+  known t = suits_name IsWireOf numbers_free stack s.wires suited t
 
   named_one : (c : Class) (t : List ℕ) (at : Place) (ws : List Wire) → OneOf c (kinds_in stack t) → operand s t at None ≡ Ok ws → map class_of ws ≡ c ∷ []
   named_one c t at ws h e =

@@ -51,7 +51,7 @@ pub with_half_none : (opened : List Half) → with_half [] opened ≡ opened
 with_half_none [] = refl
 with_half_none (top ∷ rest) = ap (λ (is : List Item). record { wires = top.wires; items = is } ∷ rest) (append-nil top.items)
 
-with_half_more : (a b : List Item) (opened : List Half) → with_half b (with_half a opened) ≡ with_half (a ++ b) opened
+pub with_half_more : (a b : List Item) (opened : List Half) → with_half b (with_half a opened) ≡ with_half (a ++ b) opened
 with_half_more a b [] = refl
 with_half_more a b (top ∷ rest) = ap (λ (is : List Item). record { wires = top.wires; items = is } ∷ rest) (append_assoc top.items a b)
 

@@ -139,42 +139,6 @@ IsWireOf (kind.One c) ws = map class_of ws ≡ c ∷ []
 IsWireOf (kind.Many c) ws = map class_of ws ≡ replicate (length ws) c
 IsWireOf (kind.Number s) ws = Unit {0}
 
-abbrev pub IsKnown : Option NameKind → List Wire → Type 0
-IsKnown None ws = Unit {0}
-IsKnown (Some k) ws = IsWireOf k ws
-
--- scope by scope, each name has the wires that its kind says
-abbrev pub Suits : Stack → List Wired → Type 0
-Suits [] [] = Unit {0}
-Suits (here ∷ outer) (scope ∷ scopes) = ((name : List ℕ) → IsKnown (kind_in (here ∷ outer) name) (wires_named (scope ∷ scopes) name)) × Suits outer scopes
-Suits _ _ = ⊥
-
-suits_in : (stack : Stack) (scopes : List Wired) → Suits stack scopes → (name : List ℕ) → IsKnown (kind_in stack name) (wires_named scopes name)
-suits_in [] [] suits name = tt
-suits_in [] (scope ∷ scopes) suits name = absurd suits
-suits_in (here ∷ outer) [] suits name = absurd suits
-suits_in (here ∷ outer) (scope ∷ scopes) suits name = suits.0 name
-
--- `M_PI` is a number
-pub suits_name : (stack : Stack) (scopes : List Wired) → Suits stack scopes → (name : List ℕ) → IsKnown (kinds_in stack name) (wires_named scopes name)
-suits_name stack scopes suits name = by (kind_in stack name) (suits_in stack scopes suits name)
-  where
-    pi : (b : Bool) (s : NumSort) → IsKnown (cond b (Some (kind.Number s)) None) (wires_named scopes name)
-    pi true s = tt
-    pi false s = tt
-
-    by : (k : Option NameKind) → IsKnown k (wires_named scopes name) → IsKnown (or_pi name k) (wires_named scopes name)
-    by None h = pi (is_pi name) _
-    by (Some k) h = h
-
--- one scope more, and one less
-pub suits_scope : (stack : Stack) (scopes : List Wired) → Suits stack scopes → Suits ([] ∷ stack) ([] ∷ scopes)
-suits_scope stack scopes suits = (suits_in stack scopes suits, suits)
-
-pub suits_left : (here : List Known) (outer : Stack) (scopes : List Wired) → Suits (here ∷ outer) scopes → Suits outer (drop 1 scopes)
-suits_left here outer [] suits = absurd suits
-suits_left here outer (scope ∷ scopes) suits = suits.1
-
 -- ---- a declared name
 
 kind_added : (here : List Known) (n : List ℕ) (k : NameKind) (q : List ℕ) → kind_here (here ++ known n k ∷ []) q ≡ option_or (kind_here here q) (cond (same q n) (Some k) None)
@@ -205,40 +169,106 @@ kind_other here name k q is =
     ∙ ap (λ (b : Bool). option_or (kind_here here q) (cond b (Some k) None)) is
     ∙ or_none (kind_here here q)
 
-suits_value : (here : List Known) (outer : Stack) (scope : Wired) (scopes : List Wired) (name : Name) (k : NameKind) (ws : List Wire)
-    → Suits (here ∷ outer) (scope ∷ scopes) → IsNew here name → IsWireOf k ws → Suits (with_name here name k ∷ outer) (with_value scope name.text ws ∷ scopes)
-suits_value here outer scope scopes name k ws suits new is = ((λ q. by q (same q name.text) refl), suits.1)
+-- ---- what is said by kinds
+
+module _ (P : NameKind → List Wire → Type 0) where
+  abbrev pub IsKnownBy : Option NameKind → List Wire → Type 0
+  IsKnownBy None ws = Unit {0}
+  IsKnownBy (Some k) ws = P k ws
+
+  -- scope by scope, each name has wires of which this is said by its kind
+  abbrev pub SuitsBy : Stack → List Wired → Type 0
+  SuitsBy [] [] = Unit {0}
+  SuitsBy (here ∷ outer) (scope ∷ scopes) = ((name : List ℕ) → IsKnownBy (kind_in (here ∷ outer) name) (wires_named (scope ∷ scopes) name)) × SuitsBy outer scopes
+  SuitsBy _ _ = ⊥
+
+  suits_in : (stack : Stack) (scopes : List Wired) → SuitsBy stack scopes → (name : List ℕ) → IsKnownBy (kind_in stack name) (wires_named scopes name)
+  suits_in [] [] suits name = tt
+  suits_in [] (scope ∷ scopes) suits name = absurd suits
+  suits_in (here ∷ outer) [] suits name = absurd suits
+  suits_in (here ∷ outer) (scope ∷ scopes) suits name = suits.0 name
+
+  -- `M_PI` is a number
+  pub suits_name : ((s : NumSort) (ws : List Wire) → P (kind.Number s) ws) → (stack : Stack) (scopes : List Wired) → SuitsBy stack scopes
+      → (name : List ℕ) → IsKnownBy (kinds_in stack name) (wires_named scopes name)
+  suits_name free stack scopes suits name = by (kind_in stack name) (suits_in stack scopes suits name)
+    where
+      pi : (b : Bool) (s : NumSort) → IsKnownBy (cond b (Some (kind.Number s)) None) (wires_named scopes name)
+      pi true s = free s (wires_named scopes name)
+      pi false s = tt
+
+      by : (k : Option NameKind) → IsKnownBy k (wires_named scopes name) → IsKnownBy (or_pi name k) (wires_named scopes name)
+      by None h = pi (is_pi name) _
+      by (Some k) h = h
+
+  -- one scope more, and one less
+  pub suits_scope : (stack : Stack) (scopes : List Wired) → SuitsBy stack scopes → SuitsBy ([] ∷ stack) ([] ∷ scopes)
+  suits_scope stack scopes suits = (suits_in stack scopes suits, suits)
+
+  pub suits_left : (here : List Known) (outer : Stack) (scopes : List Wired) → SuitsBy (here ∷ outer) scopes → SuitsBy outer (drop 1 scopes)
+  suits_left here outer [] suits = absurd suits
+  suits_left here outer (scope ∷ scopes) suits = suits.1
+
+  -- ---- a declared name
+
+  suits_value : (here : List Known) (outer : Stack) (scope : Wired) (scopes : List Wired) (name : Name) (k : NameKind) (ws : List Wire)
+      → SuitsBy (here ∷ outer) (scope ∷ scopes) → IsNew here name → P k ws → SuitsBy (with_name here name k ∷ outer) (with_value scope name.text ws ∷ scopes)
+  suits_value here outer scope scopes name k ws suits new is = ((λ q. by q (same q name.text) refl), suits.1)
+    where
+      new_wires : (q : List ℕ) (b : Bool) → same q name.text ≡ b → wires_named (with_value scope name.text ws ∷ scopes) q ≡ unwrap_or (cond b (Some ws) (value_under scope q)) (wires_named scopes q)
+      new_wires q b e =
+          ap (λ (o : Option (List Wire)). unwrap_or o (wires_named scopes q)) (value_under-with scope name.text ws q ∙ ap (λ (t : Bool). cond t (Some ws) (value_under scope q)) e)
+
+      by : (q : List ℕ) (b : Bool) → same q name.text ≡ b → IsKnownBy (kind_in (with_name here name k ∷ outer) q) (wires_named (with_value scope name.text ws ∷ scopes) q)
+      by q true e =
+          let kinds : kind_in (with_name here name k ∷ outer) q ≡ Some k = ap (λ (o : Option NameKind). option_or o (kind_in outer q)) (kind_declared here name k q new e) in
+          let wires : wires_named (with_value scope name.text ws ∷ scopes) q ≡ ws = new_wires q true e in
+          subst (λ (o : Option NameKind). IsKnownBy o (wires_named (with_value scope name.text ws ∷ scopes) q)) (sym kinds) (subst (P k) (sym wires) is)
+      by q false e =
+          let kinds : kind_in (with_name here name k ∷ outer) q ≡ kind_in (here ∷ outer) q = ap (λ (o : Option NameKind). option_or o (kind_in outer q)) (kind_other here name k q e) in
+          let wires : wires_named (with_value scope name.text ws ∷ scopes) q ≡ wires_named (scope ∷ scopes) q = new_wires q false e in
+          subst (λ (o : Option NameKind). IsKnownBy o (wires_named (with_value scope name.text ws ∷ scopes) q)) (sym kinds) (subst (IsKnownBy (kind_in (here ∷ outer) q)) (sym wires) (suits.0 q))
+
+  -- A NAME OF WIRES is declared in the innermost scope
+  pub suits_wires : (here : List Known) (outer : Stack) (scopes : List Wired) (name : Name) (k : NameKind) (ws : List Wire)
+      → SuitsBy (here ∷ outer) scopes → IsNew here name → P k ws → SuitsBy (with_name here name k ∷ outer) (with_wires scopes name.text ws)
+  suits_wires here outer [] name k ws suits new is = absurd suits
+  suits_wires here outer (scope ∷ scopes) name k ws suits new is = suits_value here outer scope scopes name k ws suits new is
+
+  -- A NAME OF A NUMBER is declared there
+  pub suits_number : ((s : NumSort) (ws : List Wire) → P (kind.Number s) ws) → (here : List Known) (outer : Stack) (scopes : List Wired) (name : Name) (s : NumSort)
+      → SuitsBy (here ∷ outer) scopes → IsNew here name → SuitsBy (with_name here name (kind.Number s) ∷ outer) scopes
+  suits_number free here outer [] name s suits new = absurd suits
+  suits_number free here outer (scope ∷ scopes) name s suits new = ((λ q. by q (same q name.text) refl), suits.1)
+    where
+      by : (q : List ℕ) (b : Bool) → same q name.text ≡ b → IsKnownBy (kind_in (with_name here name (kind.Number s) ∷ outer) q) (wires_named (scope ∷ scopes) q)
+      by q true e =
+          subst (λ (o : Option NameKind). IsKnownBy o (wires_named (scope ∷ scopes) q))
+          (sym (ap (λ (o : Option NameKind). option_or o (kind_in outer q)) (kind_declared here name (kind.Number s) q new e))) (free s (wires_named (scope ∷ scopes) q))
+      by q false e =
+          subst (λ (o : Option NameKind). IsKnownBy o (wires_named (scope ∷ scopes) q))
+          (sym (ap (λ (o : Option NameKind). option_or o (kind_in outer q)) (kind_other here name (kind.Number s) q e))) (suits.0 q)
+
+-- the same of what is said beside it
+pub suits_weaker : (P R : NameKind → List Wire → Type 0) → ((k : NameKind) (ws : List Wire) → P k ws → R k ws) → (stack : Stack) (scopes : List Wired) → SuitsBy P stack scopes → SuitsBy R stack scopes
+suits_weaker P R weaker [] [] suits = tt
+suits_weaker P R weaker [] (scope ∷ scopes) suits = absurd suits
+suits_weaker P R weaker (here ∷ outer) [] suits = absurd suits
+suits_weaker P R weaker (here ∷ outer) (scope ∷ scopes) suits =
+    ((λ name. by (kind_in (here ∷ outer) name) (wires_named (scope ∷ scopes) name) (suits.0 name)), suits_weaker P R weaker outer scopes suits.1)
   where
-    new_wires : (q : List ℕ) (b : Bool) → same q name.text ≡ b → wires_named (with_value scope name.text ws ∷ scopes) q ≡ unwrap_or (cond b (Some ws) (value_under scope q)) (wires_named scopes q)
-    new_wires q b e =
-        ap (λ (o : Option (List Wire)). unwrap_or o (wires_named scopes q)) (value_under-with scope name.text ws q ∙ ap (λ (t : Bool). cond t (Some ws) (value_under scope q)) e)
+    by : (k : Option NameKind) (ws : List Wire) → IsKnownBy P k ws → IsKnownBy R k ws
+    by None ws h = tt
+    by (Some k) ws h = weaker k ws h
 
-    by : (q : List ℕ) (b : Bool) → same q name.text ≡ b → IsKnown (kind_in (with_name here name k ∷ outer) q) (wires_named (with_value scope name.text ws ∷ scopes) q)
-    by q true e =
-        let kinds : kind_in (with_name here name k ∷ outer) q ≡ Some k = ap (λ (o : Option NameKind). option_or o (kind_in outer q)) (kind_declared here name k q new e) in
-        let wires : wires_named (with_value scope name.text ws ∷ scopes) q ≡ ws = new_wires q true e in
-        subst (λ (o : Option NameKind). IsKnown o (wires_named (with_value scope name.text ws ∷ scopes) q)) (sym kinds) (subst (IsWireOf k) (sym wires) is)
-    by q false e =
-        let kinds : kind_in (with_name here name k ∷ outer) q ≡ kind_in (here ∷ outer) q = ap (λ (o : Option NameKind). option_or o (kind_in outer q)) (kind_other here name k q e) in
-        let wires : wires_named (with_value scope name.text ws ∷ scopes) q ≡ wires_named (scope ∷ scopes) q = new_wires q false e in
-        subst (λ (o : Option NameKind). IsKnown o (wires_named (with_value scope name.text ws ∷ scopes) q)) (sym kinds) (subst (IsKnown (kind_in (here ∷ outer) q)) (sym wires) (suits.0 q))
+-- ---- the classes of wires
 
--- A NAME OF WIRES is declared in the innermost scope
-pub suits_wires : (here : List Known) (outer : Stack) (scopes : List Wired) (name : Name) (k : NameKind) (ws : List Wire)
-    → Suits (here ∷ outer) scopes → IsNew here name → IsWireOf k ws → Suits (with_name here name k ∷ outer) (with_wires scopes name.text ws)
-suits_wires here outer [] name k ws suits new is = absurd suits
-suits_wires here outer (scope ∷ scopes) name k ws suits new is = suits_value here outer scope scopes name k ws suits new is
+abbrev pub IsKnown : Option NameKind → List Wire → Type 0
+IsKnown k ws = IsKnownBy IsWireOf k ws
 
--- A NAME OF A NUMBER is declared there
-pub suits_number : (here : List Known) (outer : Stack) (scopes : List Wired) (name : Name) (s : NumSort)
-    → Suits (here ∷ outer) scopes → IsNew here name → Suits (with_name here name (kind.Number s) ∷ outer) scopes
-suits_number here outer [] name s suits new = absurd suits
-suits_number here outer (scope ∷ scopes) name s suits new = ((λ q. by q (same q name.text) refl), suits.1)
-  where
-    by : (q : List ℕ) (b : Bool) → same q name.text ≡ b → IsKnown (kind_in (with_name here name (kind.Number s) ∷ outer) q) (wires_named (scope ∷ scopes) q)
-    by q true e =
-        subst (λ (o : Option NameKind). IsKnown o (wires_named (scope ∷ scopes) q))
-        (sym (ap (λ (o : Option NameKind). option_or o (kind_in outer q)) (kind_declared here name (kind.Number s) q new e))) tt
-    by q false e =
-        subst (λ (o : Option NameKind). IsKnown o (wires_named (scope ∷ scopes) q))
-        (sym (ap (λ (o : Option NameKind). option_or o (kind_in outer q)) (kind_other here name (kind.Number s) q e))) (suits.0 q)
+-- each name has the wires that its kind says
+abbrev pub Suits : Stack → List Wired → Type 0
+Suits stack scopes = SuitsBy IsWireOf stack scopes
+
+pub numbers_free : (s : NumSort) (ws : List Wire) → IsWireOf (kind.Number s) ws
+numbers_free s ws = tt

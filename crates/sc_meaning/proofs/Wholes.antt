@@ -34,7 +34,7 @@ use Rattle.sc_meaning.proofs.Top.{all_events, enter_is, honest, not_refused}
 
 -- ---- a fact of each key of a deck
 
-abbrev AllKeys : (Key → Type 0) → List Module → Type 0
+abbrev pub AllKeys : (Key → Type 0) → List Module → Type 0
 AllKeys P deck = (i : ℕ) (m : Module) → slice_get deck i ≡ Some m → P m.key
 
 keys_by : (P : Key → Type 0) (deck : List Module) (key : Key) (items : List Item) → AllKeys P deck → P key → AddsBy deck key items → AllKeys P (with_module deck key items)
@@ -48,7 +48,7 @@ keys_by P deck key items h p (inr (i, w)) = subst (λ (d : List Module). AllKeys
 keys_entry : (P : Key → Type 0) (deck : List Module) (key : Key) (items : List Item) → AllKeys P deck → P key → AllKeys P (with_module deck key items)
 keys_entry P deck key items h p = keys_by P deck key items h p (adds deck key items)
 
-keys_made : (P : Key → Type 0) (choice : Choice) (x : List Event) (m : Made) → AllKeys P m.deck → Each P x → AllKeys P (make choice x m).deck
+pub keys_made : (P : Key → Type 0) (choice : Choice) (x : List Event) (m : Made) → AllKeys P m.deck → Each P x → AllKeys P (make choice x m).deck
 keys_made P choice [] m h p = h
 keys_made P choice (Enter key wires ∷ x) m h p = keys_made P choice x (make_one choice (Enter key wires) m) h p.1
 keys_made P choice (Fresh c n ∷ x) m h p = keys_made P choice x (make_one choice (Fresh c n) m) h p

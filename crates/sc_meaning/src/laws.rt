@@ -7,7 +7,7 @@ ghost use Rattle.sc_meaning.specs.declared.choice.Choice.TheVariants.{Keep};
 ghost use Rattle.sc_meaning.specs.declared.fault.ElabFault.TheVariants.{OutOfRange, Repeated, TooWide, TooDeep};
 ghost use Rattle.sc_meaning.specs.Answers.{LocalAnswers};
 ghost use Rattle.sc_meaning.specs.ClassicalCalls.{CallsXor};
-ghost use Rattle.sc_meaning.specs.Decks.{AllWhole, AllShallow};
+ghost use Rattle.sc_meaning.specs.Decks.{AllWhole, AllShallow, AllDecks, AllSound};
 ghost use Rattle.sc_meaning.specs.Depth.{DepthCuts};
 ghost use Rattle.sc_meaning.specs.Enterings.{EachIsInstance};
 ghost use Rattle.sc_meaning.specs.Examples.{line, pair, pair_events, past_the_end, twice_one_wire, calls_of_g, calls_of_g_events, call_of_one, call_of_one_events, sum_gates, endless, no_round, ever_wider};
@@ -87,6 +87,13 @@ pub fn instances_expand()
 pub fn instances_are_whole()
     ensures whole { AllWhole }
     ensures shallow { AllShallow }
+{}
+
+/// Where the run of a source is not refused, its instances are a deck, and so they are where runs of equal items are folded. A
+/// hierarchical text may hold the folded ones, unless one has more items than such a text takes: then reading it back is refused.
+pub fn instances_are_sound()
+    ensures decks { AllDecks }
+    ensures sound { AllSound }
 {}
 
 /// In a run that is not refused, the gates of each call of a classical function xor its value into its output, and leave its words and

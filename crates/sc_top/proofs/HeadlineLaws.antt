@@ -17,6 +17,7 @@ use Rattle.sc_gate.specs.Numbers.{Numbers}
 use Rattle.sc_gate.specs.declared.gate.Gate.{Gate}
 use Rattle.sc_meaning.proofs.ClassicalLaws.{calls_xor}
 use Rattle.sc_meaning.proofs.Expansion.{all_expand}
+use Rattle.sc_meaning.proofs.SoundDecks.{all_decks, all_sound}
 use Rattle.sc_meaning.proofs.Wholes.{all_whole}
 use Rattle.sc_meaning.specs.declared.choice.Choice.{Choice}
 use Rattle.sc_meaning.specs.Meaning.{run, instances, meaning, Expands, expansion_of_last, other_events}
@@ -185,6 +186,7 @@ headline = record {
   texts = λ held all file text t holds within accepted choice.
       let expands = all_expand t accepted.typed.main accepted.typed.checked accepted.runs choice in
       let modules = modules_of t choice in
+      let deck = (all_decks t accepted.typed.main accepted.typed.checked accepted.runs choice).1 in
       let same = unfolded_text t choice expands in
       let gates = unfolded_gates t choice expands in
       let here : SourceOf held file choice (Ok modules) = goes text _ (holds, within) (accepted_source text t choice accepted) in
@@ -196,8 +198,8 @@ headline = record {
         writes_probes = λ limit kinds burst window reach fits.
             goes modules _ (goes modules _ here (writable limit modules fits))
             (ap written (sym (watched_is (asked_of (record { kinds = kinds; burst = burst; window = window; reach = reach }) all) t choice expands)));
-        expands = λ texts name limit held_there short deck sound fits.
-            goes modules _ (goes _ _ (held_there, short) (goes modules _ (sound_text_read modules deck sound) (writable limit modules fits))) (ap (λ (x : List ℕ). written (done x)) (sym same));
+        expands = λ texts name limit held_there within_text short fits.
+            goes modules _ (goes _ _ (held_there, within_text) (goes modules _ (sound_text_read modules deck (all_sound t accepted.typed.main accepted.typed.checked accepted.runs choice short)) (writable limit modules fits))) (ap (λ (x : List ℕ). written (done x)) (sym same));
         writes_report = λ times fits.
             let (s, is) = has_summary (durations times) modules fits in
             (s, numbers_are t choice (durations times) s expands (summary_is (durations times) modules s is), goes s _ (goes modules _ here is) refl);
@@ -207,7 +209,7 @@ headline = record {
               subst (λ (gs : List Gate). IsPlanOf k d (order_by lpfs) (durations times) gs plan) gates (planned_list k d lpfs (durations times) modules plan is).1,
               goes plan _ (goes modules _ here is) refl,
             );
-        checks = λ texts list schedule text k d lpfs times many wide held_list short says held_plan small deck.
+        checks = λ texts list schedule text k d lpfs times many wide held_list short says held_plan small.
             let (plan, scheduled, is) = written_plan held all file choice modules k d lpfs times text here says in
             let is_whole = IsWhole-folded (instances t choice) (all_whole t accepted.typed.main accepted.typed.checked accepted.runs choice) in
             let verdict = found_legal k d lpfs (durations times) modules plan deck is_whole many wide scheduled in

@@ -2,13 +2,13 @@
 use Rattle.std.proofs.Common.{◌≡◌, ℕ, ◌≤◌, false, List, [], ◌∷◌, map, length, Result, Ok, refl, sym, ap, subst, arith}
 use Rattle.std.specs.List.{AllByRecursion}
 use Rattle.sc_deck.proofs.FoldLaws.{IsWhole-folded}
-use Rattle.sc_deck.specs.Decks.{IsDeck}
 use Rattle.sc_deck.specs.Events.{fresh_in}
 use Rattle.sc_deck.specs.Modules.{Module}
 use Rattle.sc_gate.specs.Lines.{flat_text}
 use Rattle.sc_gate.specs.Numbers.{Numbers}
 use Rattle.sc_gate.specs.declared.gate.Gate.{Gate}
 use Rattle.sc_meaning.proofs.Expansion.{all_expand}
+use Rattle.sc_meaning.proofs.SoundDecks.{all_decks}
 use Rattle.sc_meaning.proofs.Wholes.{all_whole}
 use Rattle.sc_meaning.specs.declared.choice.Choice.{Choice}
 use Rattle.sc_meaning.specs.Meaning.{instances, meaning}
@@ -45,8 +45,9 @@ all_opened : (wires : Numbers) (gates : List Gate) → AllByRecursion (reading.I
 all_opened wires [] stand = tt
 all_opened wires (g ∷ gates) stand = (record { has_line = stand.0.has_line; there = stand.0.there }, all_opened wires gates stand.1)
 
-source_stands : (text : List ℕ) (t : TypedSource) (choice : Choice) → IsAcceptedAs text t → IsDeck (modules_of t choice) → IsListable ones (modules_of t choice) → Stand (list_of (modules_of t choice))
-source_stands text t choice accepted deck fits =
+source_stands : (text : List ℕ) (t : TypedSource) (choice : Choice) → IsAcceptedAs text t → IsListable ones (modules_of t choice) → Stand (list_of (modules_of t choice))
+source_stands text t choice accepted fits =
+    let deck = (all_decks t accepted.typed.main accepted.typed.checked accepted.runs choice).1 in
     let few = few_wires (fresh_in (whole (modules_of t choice))) fits.wires in
     let is_whole = IsWhole-folded (instances t choice) (all_whole t accepted.typed.main accepted.typed.checked accepted.runs choice) in
     all_opened (fresh_in (whole (modules_of t choice))) (list_of (modules_of t choice)).gates (listed_gates_stand (modules_of t choice) deck is_whole few.0 few.1)
@@ -60,10 +61,10 @@ list_again : (list : FlatText) → Stand list → AreKept list.gates → map bac
 list_again list stand kept = back_again list.gates (all_well_formed (counts list.qubits list.cbits) list.gates stand) kept
 
 pub all_come_back : AllComeBack
-all_come_back held all file text t holds within accepted choice deck fits =
+all_come_back held all file text t holds within accepted choice fits =
     let texts = headline.texts held all file text t holds within accepted choice in
     let same : list_of (modules_of t choice) ≡ meaning_list t choice = list_is t choice (all_expand t accepted.typed.main accepted.typed.checked accepted.runs choice) in
-    let stand = source_stands text t choice accepted deck fits in
+    let stand = source_stands text t choice accepted fits in
     let grammar : IsInGrammar (lowered_text (meaning_list t choice)) (lowered_list (meaning_list t choice)) =
     subst (λ (list : FlatText). IsInGrammar (lowered_text list) (lowered_list list)) same (list_in_grammar (modules_of t choice) fits stand) in
     let again : AreKept (meaning t choice) → reopened_text t choice ≡ meaning_text t choice =

@@ -4,14 +4,14 @@ use Rattle.sc_base.specs.Limits.{most_source_bytes, most_text_bytes}
 use Rattle.sc_check.specs.declared.finding.Finding.TheVariants.{Legal}
 use Rattle.sc_count.specs.Counting.{kinds_of, peak_of}
 use Rattle.sc_count.specs.Limits.{IsWithin}
-use Rattle.sc_deck.specs.Decks.{IsDeck}
 use Rattle.sc_deck.specs.Events.{flat, gates_in, fresh_in}
-use Rattle.sc_deck.specs.Hierarchical.{hier, IsSound}
+use Rattle.sc_deck.specs.Hierarchical.{hier}
 use Rattle.sc_gate.specs.Chains.{timed, total_weight, IsCritical}
 use Rattle.sc_gate.specs.Lines.{flat_text}
 use Rattle.sc_types.specs.Typing.{TypedSource}
 use Rattle.sc_meaning.specs.declared.choice.Choice.{Choice}
 use Rattle.sc_meaning.specs.ClassicalCalls.{CallsXor}
+use Rattle.sc_meaning.specs.Decks.{AreShort}
 use Rattle.sc_meaning.specs.Meaning.{run, meaning, instances}
 use Rattle.sc_meaning.specs.Outcomes.{events_of}
 use Rattle.sc_read.specs.declared.flat.FlatText.{FlatText}
@@ -65,9 +65,9 @@ pub record HasTexts (held : List ℕ → Option (List ℕ)) (all : List Watcher)
   pub writes_probes : (limit : ℕ) (kinds burst window reach : Bool) → FitsFlat limit (modules_of t choice) →
       let asked = asked_of (record { kinds = kinds; burst = burst; window = window; reach = reach }) all in
       Says held all (Flat file choice limit kinds burst window reach) (Ok (done (meaning_text t choice ++ probe_lines (meaning t choice) asked)))
-  -- and so does `expand`, over what `hier` wrote, where that is a sound deck and not too long
+  -- and so does `expand`, over what `hier` wrote, where that is not too long and no body of it has too many items
   pub expands : (texts : List ℕ → Option (List ℕ)) (written : List ℕ) (limit : ℕ) → texts written ≡ Some (hier (modules_of t choice)) → length (hier (modules_of t choice)) ≤ most_text_bytes →
-      IsDeck (modules_of t choice) → IsSound (modules_of t choice) → FitsFlat limit (modules_of t choice) → Says texts all (Expand written limit) (Ok (done (meaning_text t choice)))
+      AreShort (modules_of t choice) → FitsFlat limit (modules_of t choice) → Says texts all (Expand written limit) (Ok (done (meaning_text t choice)))
   -- `count` writes the numbers of these gates, where they are within their limit
   pub writes_report : (times : Option (List ℕ)) → IsWithin (counts_by (durations times) (modules_of t choice)) →
       (s : Summary) × AreNumbersOf t choice (durations times) s × Says held all (Count file choice times) (Ok (done (report_text (is_some times) s)))
@@ -77,7 +77,7 @@ pub record HasTexts (held : List ℕ → Option (List ℕ)) (all : List Watcher)
   -- and `check` finds it legal for what `flat` wrote, where neither is too long
   pub checks : (texts : List ℕ → Option (List ℕ)) (list schedule written : List ℕ) (k d : ℕ) (lpfs : Bool) (times : Option (List ℕ)) → IsSize k → IsSize d →
       texts list ≡ Some (meaning_text t choice) → length (meaning_text t choice) ≤ most_text_bytes → Says held all (Schedule file choice k d lpfs times) (Ok (done written)) →
-      texts schedule ≡ Some written → length written ≤ most_text_bytes → IsDeck (modules_of t choice) → Says texts all (Check list schedule) (Ok (judged Legal))
+      texts schedule ≡ Some written → length written ≤ most_text_bytes → Says texts all (Check list schedule) (Ok (judged Legal))
   -- `open` writes what they are lowered to, and `cancel` those that stay when the pairs that undo each other are taken out
   pub writes_open : IsListable ones (modules_of t choice) → Says held all (ToOpen file choice) (Ok (done (lowered_text (meaning_list t choice))))
   pub writes_shortened : (kinds burst window reach : Bool) → IsListable ones (modules_of t choice) →

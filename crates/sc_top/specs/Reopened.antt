@@ -2,7 +2,6 @@
 use Rattle.std.specs.Prelude.{◌≡◌, ℕ, ◌≤◌, true, false, List, Option, Some, Ok, length}
 use Rattle.std.specs.List.{AllByRecursion}
 use Rattle.sc_base.specs.Limits.{most_source_bytes, most_text_bytes}
-use Rattle.sc_deck.specs.Decks.{IsDeck}
 use Rattle.sc_gate.specs.declared.gate.Gate.{Gate}
 use Rattle.sc_meaning.specs.declared.choice.Choice.{Choice}
 use Rattle.sc_meaning.specs.Meaning.{meaning}
@@ -40,4 +39,4 @@ pub record ComesBack (held : List ℕ → Option (List ℕ)) (all : List Watcher
 -- WHAT `open` WROTE COMES BACK, of each accepted source whose list is within every limit
 abbrev pub AllComeBack : Type 0
 AllComeBack = (held : List ℕ → Option (List ℕ)) (all : List Watcher) (file text : List ℕ) (t : TypedSource) → held file ≡ Some text → length text ≤ most_source_bytes → IsAcceptedAs text t →
-    (choice : Choice) → IsDeck (modules_of t choice) → IsListable ones (modules_of t choice) → ComesBack held all file t choice
+    (choice : Choice) → IsListable ones (modules_of t choice) → ComesBack held all file t choice

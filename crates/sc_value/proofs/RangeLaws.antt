@@ -27,8 +27,8 @@ use Rattle.sc_value.specs.Ranges.{IsInRange, AreInRange, HoldsWritten, LinksHold
 -- ---- operations
 
 -- the value, if there is one, is in range
-record Stays (r : Result Value EvalFault) : Type 0 where
-  stays : IfOk r IsInRange
+pub record Stays (r : Result Value EvalFault) : Type 0 where
+  pub stays : IfOk r IsInRange
 
 after : {A : Type 0} (r : Result A EvalFault) (next : A → Result Value EvalFault) (P : A → Type 0) → IfOk r P → ((a : A) → P a → Stays (next a)) → Stays (r >>= next)
 after (Ok a) next P h f = f a h
@@ -92,7 +92,7 @@ on_doubles_stays op.Gt at a b = truth_stays _
 on_doubles_stays op.Ge at a b = truth_stays _
 on_doubles_stays _ at a b = record { stays = refl }
 
-apply_stays : (op : BinOp) (at : Place) (a b : Value) → Stays (apply op at a b)
+pub apply_stays : (op : BinOp) (at : Place) (a b : Value) → Stays (apply op at a b)
 apply_stays op at (v.Int a) (v.Int b) = on_ints_stays op at a b
 apply_stays op at (v.Int a) (v.Double b) = after (widened at a) _ _ (ranged_fits at (a *ℤ unit)) (λ x h. on_doubles_stays op at x b.0)
 apply_stays op at (v.Double a) (v.Int b) = after (widened at b) _ _ (ranged_fits at (b *ℤ unit)) (λ y h. on_doubles_stays op at a.0 y)
@@ -104,7 +104,7 @@ unary_stays un.Minus at (v.Double d) h = double_stays at (neg_ℤ d.0)
 unary_stays un.Plus at a h = record { stays = h }
 unary_stays un.Not at a h = truth_stays (not (is_true a))
 
-to_double_stays : (at : Place) (a : Value) → IsInRange a → Stays (to_double at a)
+pub to_double_stays : (at : Place) (a : Value) → IsInRange a → Stays (to_double at a)
 to_double_stays at (v.Int n) h = after (widened at n) _ _ (ranged_fits at (n *ℤ unit)) (λ units g. record { stays = g })
 to_double_stays at (v.Double d) h = record { stays = h }
 

@@ -13,7 +13,7 @@ use Rattle.sc_value.specs.declared.Value.{Value}
 use Rattle.sc_value.specs.Expressions.{sort_of, kinds_of}
 use Rattle.sc_value.specs.Scopes.{Scope, Scopes, constant, declared_value, value_of_name, known_kinds, with_declared, with_set, HasKind}
 
-get_inserted : (scope : Scope) (name q : List ℕ) (value : Value)
+pub get_inserted : (scope : Scope) (name q : List ℕ) (value : Value)
     → get (insert scope name value) q ≡ cond (bytes_eq q name) (Some value) (get scope q)
 get_inserted scope name q value =
     get-insert nat_list_cmp_total scope name value q ∙ ap (λ b. cond b (Some value) (get scope q)) (is_eq-slice_cmp q name)

@@ -5,7 +5,7 @@ use Rattle.sc_deck.specs.Turns.{folded}
 use Rattle.sc_word.specs.Scratch.{fn_wires}
 use Rattle.sc_elab.specs.FunctionBodies.{chosen_items}
 use Rattle.sc_elab.proofs.FunctionLaws.{keyed_params, chosen_all, items_folded, items_call, body_made, none_made}
-use Rattle.sc_elab.proofs.GateCounts.{few_items}
+use Rattle.sc_meaning.proofs.GateCounts.{few_items}
 use Rattle.sc_elab.proofs.function.function_body.Goals as goal
 
 pub returns-then-wires-from-clause-err : goal.returns-then-wires-from-clause-err

@@ -197,7 +197,7 @@ few_scratch : (n : ℕ) → length (scratch_items n) ≤ 1
 few_scratch zero = omega arith
 few_scratch (suc n) = omega arith
 
-few_gates : (t : TypedWords) → IsTypedFn t → fn_wires t ≤ 65536 → length (gates_of t) ≤ 720896
+pub few_gates : (t : TypedWords) → IsTypedFn t → fn_wires t ≤ 65536 → length (gates_of t) ≤ 720896
 few_gates t typed narrow =
     let c : Circuit = compute t in
     let few : Few (operands_of t) c = all_few (words_from 0 t.params) (operands_of t) t.binds t.returned in
