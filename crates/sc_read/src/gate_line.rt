@@ -1,5 +1,5 @@
 //! Gate lines, read strictly.
-ghost use Rattle.std.specs.Prelude.{◌≡◌, ◌≢◌, ◌++◌, ◌∷◌, ℕ, List as Values, IfSome, IfNone, All, Option, Bool, Some as SomeOf};
+ghost use Rattle.std.specs.Prelude.{◌≡◌, ◌≢◌, ◌++◌, ◌∷◌, [], ℕ, List as Values, IfSome, IfNone, All, Option, Bool, Some as SomeOf};
 ghost use Rattle.sc_base.specs.declared.names.Class.{Class as Classes};
 ghost use Rattle.sc_base.specs.declared.names.Fixed.{Fixed as Fixeds};
 ghost use Rattle.sc_base.specs.declared.names.GateName.{GateName as Names};
@@ -40,6 +40,41 @@ pub(crate) fn take_gate(bytes: &[u8], qubits: u32, cbits: u32) -> Option<(Gate, 
         Some((gate, rest))
     } else {
         None
+    }
+}
+
+/// The gate whose line this is, where it is one on a qubit, one of so many, with a name of one letter. None where the line is any other
+/// one. It looks at each byte once, since nothing else is as short and can stand as often.
+pub(crate) fn letter_gate(line: &[u8], qubits: u32) -> Option<Gate>
+    ensures { IfSome result (λ g. (cbits : ℕ) → GateFront (counts qubits cbits) line.now g []) }
+{
+    let [letter, b' ', b'q', digits @ ..] = line else {
+        return None;
+    };
+    let Some(kind) = letter_kind(*letter) else {
+        return None;
+    };
+    let Some((number, rest)) = take_number(digits) else {
+        return None;
+    };
+    match rest {
+        [b'\n'] if number < qubits as u64 => Some(Gate::one(kind, Wire::qubit(number as u32))),
+        _ => None,
+    }
+}
+
+/// The kind whose name is this letter.
+fn letter_kind(letter: u8) -> Option<Kind>
+    ensures { IfSome result (λ k. gate_text (name_of k) ≡ letter ∷ []) }
+{
+    match letter {
+        b'X' => Some(Kind::X),
+        b'Y' => Some(Kind::Y),
+        b'Z' => Some(Kind::Z),
+        b'H' => Some(Kind::H),
+        b'S' => Some(Kind::S),
+        b'T' => Some(Kind::T),
+        _ => None,
     }
 }
 
