@@ -1,5 +1,5 @@
 //! Gate lines, read strictly.
-ghost use Rattle.std.specs.Prelude.{◌≡◌, ◌≢◌, ◌++◌, ◌∷◌, [], ℕ, List as Values, IfSome, IfNone, All, Option, Bool, Some as SomeOf};
+ghost use Rattle.std.specs.Prelude.{◌≡◌, ◌≢◌, ◌<◌, ◌^◌, ◌++◌, ◌∷◌, [], ℕ, List as Values, IfSome, IfNone, All, Option, Bool, Some as SomeOf};
 ghost use Rattle.sc_base.specs.declared.names.Class.{Class as Classes};
 ghost use Rattle.sc_base.specs.declared.names.Fixed.{Fixed as Fixeds};
 ghost use Rattle.sc_base.specs.declared.names.GateName.{GateName as Names};
@@ -8,9 +8,10 @@ ghost use Rattle.sc_gate.specs.declared.gate.Gate.{Gate as Gates};
 ghost use Rattle.sc_gate.specs.declared.gate.Kind.{Kind as Kinds};
 ghost use Rattle.sc_gate.specs.declared.gate.Wire.{Wire as Wires};
 ghost use Rattle.sc_gate.specs.Gates.{name_of};
-ghost use Rattle.sc_gate.specs.Kinds.{rotation_kind, preparation_kind};
-ghost use Rattle.sc_gate.specs.Lines.{class_letter, start_text};
+ghost use Rattle.sc_gate.specs.Kinds.{qubit, on_one, rotation_kind, preparation_kind};
+ghost use Rattle.sc_gate.specs.Lines.{class_letter, start_text, value_texts};
 ghost use Rattle.sc_gate.specs.Numbers.{number_of};
+ghost use Rattle.sc_gate.specs.Texts.{HasLine};
 ghost use Rattle.sc_read.specs.GateFronts.{counts, GateFront, WireFront, NextWireFront, EndsWires, MoreWiresFront, KindFront};
 
 use sc_base::{Class, GateName, take_fixed, take_number, take_text};
@@ -18,6 +19,7 @@ use sc_gate::{Gate, Kind, Wire, well_formed};
 
 /// The gate with whose line the bytes begin, and what follows the line: a well-formed gate over so many wires, as it is written.
 /// None where they begin with no such line.
+#[inline(always)]
 pub(crate) fn take_gate(bytes: &[u8], qubits: u32, cbits: u32) -> Option<(Gate, &[u8])>
     ensures some { IfSome result (λ r. GateFront (counts qubits cbits) bytes.now r.0 r.1.now) }
     ensures none { IfNone result ((g : Gates) (rest : Values ℕ) → GateFront (counts qubits cbits) bytes.now g rest → ⊥) }
@@ -43,15 +45,15 @@ pub(crate) fn take_gate(bytes: &[u8], qubits: u32, cbits: u32) -> Option<(Gate, 
     }
 }
 
-/// The gate whose line this is, where it is one on a qubit, one of so many, with a name of one letter. None where the line is any other
-/// one. It looks at each byte once, since nothing else is as short and can stand as often.
-pub(crate) fn letter_gate(line: &[u8], qubits: u32) -> Option<Gate>
+/// The gate whose line this is, where it is one of the shortest: on one qubit, one of so many, and with a name alone. None where the
+/// line is any other one. Of such lines a text can have the most, so they are told apart by their bytes and tried before all others.
+pub(crate) fn short_gate(line: &[u8], qubits: u32) -> Option<Gate>
     ensures { IfSome result (λ g. (cbits : ℕ) → GateFront (counts qubits cbits) line.now g []) }
 {
-    let [letter, b' ', b'q', digits @ ..] = line else {
+    let Some((kind, wire)) = take_short_kind(line) else {
         return None;
     };
-    let Some(kind) = letter_kind(*letter) else {
+    let [b'q', digits @ ..] = wire else {
         return None;
     };
     let Some((number, rest)) = take_number(digits) else {
@@ -63,17 +65,22 @@ pub(crate) fn letter_gate(line: &[u8], qubits: u32) -> Option<Gate>
     }
 }
 
-/// The kind whose name is this letter.
-fn letter_kind(letter: u8) -> Option<Kind>
-    ensures { IfSome result (λ k. gate_text (name_of k) ≡ letter ∷ []) }
+/// The kind with whose short name the bytes begin, and what follows the space behind it. It has neither an angle nor a start value,
+/// and acts on one qubit.
+fn take_short_kind(bytes: &[u8]) -> Option<(Kind, &[u8])>
+    ensures some { IfSome result (λ r. bytes.now ≡ gate_text (name_of r.0) ++ 32 ∷ r.1.now) }
+    ensures suits { IfSome result (λ r. (number : ℕ) → number < 2 ^ 32 → HasLine (on_one r.0 (qubit number))) }
+    ensures plain { IfSome result (λ r. value_texts r.0 ≡ []) }
 {
-    match letter {
-        b'X' => Some(Kind::X),
-        b'Y' => Some(Kind::Y),
-        b'Z' => Some(Kind::Z),
-        b'H' => Some(Kind::H),
-        b'S' => Some(Kind::S),
-        b'T' => Some(Kind::T),
+    match bytes {
+        [b'X', b' ', rest @ ..] => Some((Kind::X, rest)),
+        [b'Y', b' ', rest @ ..] => Some((Kind::Y, rest)),
+        [b'Z', b' ', rest @ ..] => Some((Kind::Z, rest)),
+        [b'H', b' ', rest @ ..] => Some((Kind::H, rest)),
+        [b'S', b' ', rest @ ..] => Some((Kind::S, rest)),
+        [b'T', b' ', rest @ ..] => Some((Kind::T, rest)),
+        [b'S', b'd', b'a', b'g', b' ', rest @ ..] => Some((Kind::Sdag, rest)),
+        [b'T', b'd', b'a', b'g', b' ', rest @ ..] => Some((Kind::Tdag, rest)),
         _ => None,
     }
 }

@@ -10,7 +10,7 @@ ghost use Rattle.sc_read.specs.declared.item_line.ItemLine.{ItemLine as LineValu
 ghost use Rattle.sc_read.specs.GateFronts.{counts};
 ghost use Rattle.sc_read.specs.HierFronts.{ReadsFresh, ReadsStep, ReadsItem};
 
-use crate::gate_line::{letter_gate, take_gate, take_next_wire, take_wire};
+use crate::gate_line::{short_gate, take_gate, take_next_wire, take_wire};
 use crate::signature::take_length;
 use sc_base::{Class, List, Memory, take_number, take_text};
 use sc_deck::{Body, Deck, first_repeat};
@@ -48,7 +48,7 @@ pub(crate) fn item_of(
     ensures some { IfOk result (λ r. IfSome r (λ item. ReadsItem turns deck.now (wires_of body.now) line.now item)) }
     ensures none { IfOk result (λ r. IfNone r ((item : LineValue) → ReadsItem turns deck.now (wires_of body.now) line.now item → ⊥)) }
 {
-    if let Some(gate) = letter_gate(line, body.count(Class::Q)) {
+    if let Some(gate) = short_gate(line, body.count(Class::Q)) {
         return Ok(Some(ItemLine::Once(Step::Apply(gate))));
     }
     if let Some((class, count)) = fresh_of(line) {
@@ -122,6 +122,7 @@ fn take_turns(line: &[u8]) -> Option<(u64, &[u8])>
 }
 
 /// The gate or the call whose line this is.
+#[inline(always)]
 fn step_of(alloc: Global, line: &[u8], deck: &Deck, body: &Body) -> Result<Option<Step>, Memory>
     ensures some { IfOk result (λ r. IfSome r (λ step. ReadsStep deck.now (wires_of body.now) line.now step)) }
     ensures none { IfOk result (λ r. IfNone r ((step : StepValue) → ReadsStep deck.now (wires_of body.now) line.now step → ⊥)) }
