@@ -19,7 +19,6 @@ use sc_gate::{Gate, Kind, Wire, well_formed};
 
 /// The gate with whose line the bytes begin, and what follows the line: a well-formed gate over so many wires, as it is written.
 /// None where they begin with no such line.
-#[inline(always)]
 pub(crate) fn take_gate(bytes: &[u8], qubits: u32, cbits: u32) -> Option<(Gate, &[u8])>
     ensures some { IfSome result (λ r. GateFront (counts qubits cbits) bytes.now r.0 r.1.now) }
     ensures none { IfNone result ((g : Gates) (rest : Values ℕ) → GateFront (counts qubits cbits) bytes.now g rest → ⊥) }

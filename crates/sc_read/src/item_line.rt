@@ -122,7 +122,6 @@ fn take_turns(line: &[u8]) -> Option<(u64, &[u8])>
 }
 
 /// The gate or the call whose line this is.
-#[inline(always)]
 fn step_of(alloc: Global, line: &[u8], deck: &Deck, body: &Body) -> Result<Option<Step>, Memory>
     ensures some { IfOk result (λ r. IfSome r (λ step. ReadsStep deck.now (wires_of body.now) line.now step)) }
     ensures none { IfOk result (λ r. IfNone r ((step : StepValue) → ReadsStep deck.now (wires_of body.now) line.now step → ⊥)) }
