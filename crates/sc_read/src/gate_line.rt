@@ -103,12 +103,41 @@ fn take_name(bytes: &[u8]) -> Option<(GateName, &[u8])>
     ensures some { IfSome result (λ r. bytes.now ≡ gate_text r.0 ++ 32 ∷ r.1.now) }
     ensures none { IfNone result ((name : Names) (rest : Values ℕ) → bytes.now ≡ gate_text name ++ 32 ∷ rest → ⊥) }
 {
+    if let Some((name, rest)) = take_late_name(bytes) {
+        return Some((name, rest));
+    }
     let Some((word, rest)) = cut_space(bytes) else {
         return None;
     };
     match GateName::from_text(word) {
         Some(name) => Some((name, rest)),
         None => None,
+    }
+}
+
+/// The name with which the bytes begin, where it is one of the last ten, and what follows the space behind it. They are told by their bytes:
+/// to compare the bytes with one name after the other takes as long as to read the rest of the line.
+fn take_late_name(bytes: &[u8]) -> Option<(GateName, &[u8])>
+    ensures { IfSome result (λ r. bytes.now ≡ gate_text r.0 ++ 32 ∷ r.1.now) }
+{
+    match bytes {
+        [b'C', b'N', b'O', b'T', b' ', rest @ ..] => Some((GateName::Cnot, rest)),
+        [b'T', b'o', b'f', b'f', b'o', b'l', b'i', b' ', rest @ ..] => Some((
+            GateName::Toffoli,
+            rest,
+        )),
+        [b'F', b'r', b'e', b'd', b'k', b'i', b'n', b' ', rest @ ..] => Some((
+            GateName::Fredkin,
+            rest,
+        )),
+        [b'R', b'x', b' ', rest @ ..] => Some((GateName::Rx, rest)),
+        [b'R', b'y', b' ', rest @ ..] => Some((GateName::Ry, rest)),
+        [b'R', b'z', b' ', rest @ ..] => Some((GateName::Rz, rest)),
+        [b'P', b'r', b'e', b'p', b'X', b' ', rest @ ..] => Some((GateName::PrepX, rest)),
+        [b'P', b'r', b'e', b'p', b'Z', b' ', rest @ ..] => Some((GateName::PrepZ, rest)),
+        [b'M', b'e', b'a', b's', b'X', b' ', rest @ ..] => Some((GateName::MeasX, rest)),
+        [b'M', b'e', b'a', b's', b'Z', b' ', rest @ ..] => Some((GateName::MeasZ, rest)),
+        _ => None,
     }
 }
 
