@@ -6,10 +6,10 @@ Builds a program in a folder that it drops again, on copies of the crates that i
 writes the deck's text again where it is asked to; what reading alone takes is subtracted. The cases are the names in CASES,
 by default all of them.
 """
-import subprocess, sys, tempfile
+import sys, tempfile
 from pathlib import Path
-from programs import COUNTER_RT, WORDS_RT, lay_out
-from read import MOST, bodies, calls, measure
+from programs import COUNTER_RT, WORDS_RT, add_program, build, lay_out, measure
+from read import MOST, bodies, calls
 
 CRATES = {
     'sc_base': 'itoa',
@@ -78,13 +78,7 @@ def main():
     names = sys.argv[1:] or list(CASES)
     with tempfile.TemporaryDirectory() as folder:
         folder = Path(folder)
-        crates = lay_out(folder, CRATES, 'again')
-        (crates / 'again/src').mkdir(parents=True)
-        (crates / 'again/src/main.rt').write_text(MAIN_RT)
-        built = subprocess.run(['rt', 'run'], cwd=crates / 'again', capture_output=True, text=True)
-        program = crates / 'again/out/again'
-        if not program.exists():
-            sys.exit(built.stdout + built.stderr)
+        program = build(add_program(lay_out(folder, CRATES, 'again'), 'again', MAIN_RT))
         path = folder / 'text'
         for name in names:
             path.write_text(CASES[name](MOST))

@@ -1,5 +1,5 @@
 '''What the programs of several benches have in common.'''
-import shutil
+import os, shutil, subprocess, sys, time
 from pathlib import Path
 
 TOP = Path(__file__).resolve().parent.parent
@@ -66,3 +66,28 @@ def lay_out(folder, crates, program):
     (folder / 'HANDLES').write_text((TOP / 'HANDLES').read_text())
     (folder / 'crates.txt').write_text(''.join(f'{name}: {below}\n' for name, below in crates.items()))
     return folder / 'crates'
+
+
+def add_program(crates, program, text):
+    '''Puts a program of this text beside the crates below it, and answers its folder.'''
+    home = crates / program
+    (home / 'src').mkdir(parents=True)
+    (home / 'src/main.rt').write_text(text)
+    return home
+
+
+def build(home):
+    '''Builds the program of this folder, proved, and answers where it stands; what `rt` says ends the bench where it was not built.'''
+    built = subprocess.run(['rt', 'run'], cwd=home, capture_output=True, text=True)
+    path = home / 'out' / home.name
+    if not path.exists():
+        sys.exit(built.stdout + built.stderr)
+    return path
+
+
+def measure(program, words):
+    '''The status, the seconds of processor time and of the clock, and the peak in MiB of a run.'''
+    begun = time.time()
+    child = subprocess.Popen([program, *map(str, words)])
+    _, status, usage = os.wait4(child.pid, 0)
+    return os.waitstatus_to_exitcode(status), usage.ru_utime + usage.ru_stime, time.time() - begun, usage.ru_maxrss // 1024

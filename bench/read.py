@@ -5,9 +5,9 @@ usage: bench/read.py [CASE..]
 Builds a program in a folder that it drops again, on copies of the readers' crates. The cases are the names in CASES, by
 default all of them. `none` reads the file alone: what it takes is part of each other case.
 """
-import os, subprocess, sys, tempfile, time
+import sys, tempfile
 from pathlib import Path
-from programs import WORDS_RT, lay_out
+from programs import WORDS_RT, add_program, build, lay_out, measure
 
 MOST = 134217728
 
@@ -94,31 +94,19 @@ CASES = {
     'flat_comments': ('flat', lambda size: gates('X q0\n', 1000) + '# comment\n' * ((size - 2000) // 10)),
     'hier_toffoli': ('hier', lambda size: bodies('Toffoli q10000,q20000,q30000\n', size)),
     'hier_short': ('hier', lambda size: bodies('X q0\n', size)),
+    'hier_dagger': ('hier', lambda size: bodies('Sdag q0\n', size)),
+    'hier_cnot': ('hier', lambda size: bodies('CNOT q0,q1\n', size)),
     'hier_repeat': ('hier', lambda size: bodies('repeat 18446744073709551615 X q0\n', size)),
     'hier_calls': ('hier', lambda size: calls('', size)),
     'hier_repeated_calls': ('hier', lambda size: calls('repeat 1000000 ', size)),
 }
 
 
-def measure(program, words):
-    """The status, the seconds of processor time and of the clock, and the peak in MiB of a run."""
-    begun = time.time()
-    child = subprocess.Popen([program, *map(str, words)])
-    _, status, usage = os.wait4(child.pid, 0)
-    return os.waitstatus_to_exitcode(status), usage.ru_utime + usage.ru_stime, time.time() - begun, usage.ru_maxrss // 1024
-
-
 def main():
     names = sys.argv[1:] or list(CASES)
     with tempfile.TemporaryDirectory() as folder:
         folder = Path(folder)
-        crates = lay_out(folder, CRATES, 'reading')
-        (crates / 'reading/src').mkdir(parents=True)
-        (crates / 'reading/src/main.rt').write_text(MAIN_RT)
-        built = subprocess.run(['rt', 'run'], cwd=crates / 'reading', capture_output=True, text=True)
-        program = crates / 'reading/out/reading'
-        if not program.exists():
-            sys.exit(built.stdout + built.stderr)
+        program = build(add_program(lay_out(folder, CRATES, 'reading'), 'reading', MAIN_RT))
         path = folder / 'text'
         for name in names:
             form, make = CASES[name]

@@ -7,7 +7,7 @@ and overflow. Without `--try` all the crates below are proved first, which takes
 """
 import os, subprocess, sys, tempfile
 from pathlib import Path
-from programs import WORDS_RT, lay_out
+from programs import WORDS_RT, add_program, build, lay_out
 
 CRATES = {
     'sc_base': 'itoa',
@@ -101,17 +101,9 @@ def main():
     is_tried = '--try' in sys.argv[1:]
     with tempfile.TemporaryDirectory() as folder:
         folder = Path(folder)
-        crates = lay_out(folder, CRATES, 'product')
-        (crates / 'product/src').mkdir(parents=True)
-        (crates / 'product/src/main.rt').write_text(MAIN_RT)
-        if is_tried:
-            words = ['rt', 'try', '--']
-        else:
-            built = subprocess.run(['rt', 'run'], cwd=crates / 'product', capture_output=True, text=True)
-            words = [crates / 'product/out/product']
-            if not words[0].exists():
-                sys.exit(built.stdout + built.stderr)
-        os.chdir(crates / 'product')
+        home = add_program(lay_out(folder, CRATES, 'product'), 'product', MAIN_RT)
+        words = ['rt', 'try', '--'] if is_tried else [build(home)]
+        os.chdir(home)
         least = busy([*words, 0, 0])
         print(f'built in {(busy([*words, 200, 0]) - least) / 200 * 1e6:.0f} us, run in {(busy([*words, 0, 1000]) - least) / 1000 * 1e6:.0f} us')
 

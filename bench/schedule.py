@@ -7,9 +7,9 @@ Builds a program in a folder that it drops again, on copies of sc_base, sc_gate,
 in CASES and TEXTS, by default all of them. `gates` makes the gates and no schedule: what it takes is part of each other case.
 A case of a text makes the text first; one that ends with `made` does no more.
 """
-import os, shutil, subprocess, sys, tempfile, time
+import shutil, sys, tempfile
 from pathlib import Path
-from programs import WORDS_RT
+from programs import WORDS_RT, add_program, build, measure
 
 top = Path(__file__).resolve().parent.parent
 
@@ -256,14 +256,6 @@ fn main(rt: HostRuntime) -> ExitCode {
 '''
 
 
-def measure(program, words):
-    """The status, the seconds of processor time, and the peak in MiB of a run."""
-    begun = time.time()
-    child = subprocess.Popen([program, *map(str, words)])
-    _, status, usage = os.wait4(child.pid, 0)
-    return os.waitstatus_to_exitcode(status), usage.ru_utime + usage.ru_stime, time.time() - begun, usage.ru_maxrss // 1024
-
-
 def main():
     names = sys.argv[1:] or [*CASES, *TEXTS]
     with tempfile.TemporaryDirectory() as folder:
@@ -273,12 +265,7 @@ def main():
             shutil.copytree(top / 'crates' / name, crates / name, ignore=shutil.ignore_patterns('out'))
         (folder / 'HANDLES').write_text((top / 'HANDLES').read_text())
         (folder / 'crates.txt').write_text('sc_base: itoa\nsc_gate: sc_base itoa\nsc_sched: sc_base sc_gate\nsc_check: sc_base sc_gate sc_sched\nsteps: sc_base sc_gate sc_sched sc_check\n')
-        (crates / 'steps/src').mkdir(parents=True)
-        (crates / 'steps/src/main.rt').write_text(MAIN_RT)
-        built = subprocess.run(['rt', 'run'], cwd=crates / 'steps', capture_output=True, text=True)
-        program = crates / 'steps/out/steps'
-        if not program.exists():
-            sys.exit(built.stdout + built.stderr)
+        program = build(add_program(crates, 'steps', MAIN_RT))
         for name in names:
             is_text = name in TEXTS
             most = TEXTS[name][0] if is_text else MOST

@@ -1,5 +1,5 @@
 //! Gate lines, read strictly.
-ghost use Rattle.std.specs.Prelude.{◌≡◌, ◌≢◌, ◌++◌, ◌∷◌, ℕ, List as Values, IfSome, IfNone, All, Option, Bool, Some as SomeOf};
+ghost use Rattle.std.specs.Prelude.{◌≡◌, ◌≢◌, ◌<◌, ◌^◌, ◌++◌, ◌∷◌, [], ℕ, List as Values, IfSome, IfNone, All, Option, Bool, Some as SomeOf};
 ghost use Rattle.sc_base.specs.declared.names.Class.{Class as Classes};
 ghost use Rattle.sc_base.specs.declared.names.Fixed.{Fixed as Fixeds};
 ghost use Rattle.sc_base.specs.declared.names.GateName.{GateName as Names};
@@ -8,9 +8,10 @@ ghost use Rattle.sc_gate.specs.declared.gate.Gate.{Gate as Gates};
 ghost use Rattle.sc_gate.specs.declared.gate.Kind.{Kind as Kinds};
 ghost use Rattle.sc_gate.specs.declared.gate.Wire.{Wire as Wires};
 ghost use Rattle.sc_gate.specs.Gates.{name_of};
-ghost use Rattle.sc_gate.specs.Kinds.{rotation_kind, preparation_kind};
-ghost use Rattle.sc_gate.specs.Lines.{class_letter, start_text};
+ghost use Rattle.sc_gate.specs.Kinds.{qubit, on_one, rotation_kind, preparation_kind};
+ghost use Rattle.sc_gate.specs.Lines.{class_letter, start_text, value_texts};
 ghost use Rattle.sc_gate.specs.Numbers.{number_of};
+ghost use Rattle.sc_gate.specs.Texts.{HasLine};
 ghost use Rattle.sc_read.specs.GateFronts.{counts, GateFront, WireFront, NextWireFront, EndsWires, MoreWiresFront, KindFront};
 
 use sc_base::{Class, GateName, take_fixed, take_number, take_text};
@@ -43,6 +44,46 @@ pub(crate) fn take_gate(bytes: &[u8], qubits: u32, cbits: u32) -> Option<(Gate, 
     }
 }
 
+/// The gate whose line this is, where it is one of the shortest: on one qubit, one of so many, and with a name alone. None where the
+/// line is any other one. Of such lines a text can have the most, so they are told apart by their bytes and tried before all others.
+pub(crate) fn short_gate(line: &[u8], qubits: u32) -> Option<Gate>
+    ensures { IfSome result (λ g. (cbits : ℕ) → GateFront (counts qubits cbits) line.now g []) }
+{
+    let Some((kind, wire)) = take_short_kind(line) else {
+        return None;
+    };
+    let [b'q', digits @ ..] = wire else {
+        return None;
+    };
+    let Some((number, rest)) = take_number(digits) else {
+        return None;
+    };
+    match rest {
+        [b'\n'] if number < qubits as u64 => Some(Gate::one(kind, Wire::qubit(number as u32))),
+        _ => None,
+    }
+}
+
+/// The kind with whose short name the bytes begin, and what follows the space behind it. It has neither an angle nor a start value,
+/// and acts on one qubit.
+fn take_short_kind(bytes: &[u8]) -> Option<(Kind, &[u8])>
+    ensures some { IfSome result (λ r. bytes.now ≡ gate_text (name_of r.0) ++ 32 ∷ r.1.now) }
+    ensures suits { IfSome result (λ r. (number : ℕ) → number < 2 ^ 32 → HasLine (on_one r.0 (qubit number))) }
+    ensures plain { IfSome result (λ r. value_texts r.0 ≡ []) }
+{
+    match bytes {
+        [b'X', b' ', rest @ ..] => Some((Kind::X, rest)),
+        [b'Y', b' ', rest @ ..] => Some((Kind::Y, rest)),
+        [b'Z', b' ', rest @ ..] => Some((Kind::Z, rest)),
+        [b'H', b' ', rest @ ..] => Some((Kind::H, rest)),
+        [b'S', b' ', rest @ ..] => Some((Kind::S, rest)),
+        [b'T', b' ', rest @ ..] => Some((Kind::T, rest)),
+        [b'S', b'd', b'a', b'g', b' ', rest @ ..] => Some((Kind::Sdag, rest)),
+        [b'T', b'd', b'a', b'g', b' ', rest @ ..] => Some((Kind::Tdag, rest)),
+        _ => None,
+    }
+}
+
 /// The bytes before the first space, and what follows it.
 fn cut_space(bytes: &[u8]) -> Option<(&[u8], &[u8])>
     ensures some { IfSome result (λ r. bytes.now ≡ r.0.now ++ 32 ∷ r.1.now) }
@@ -62,12 +103,41 @@ fn take_name(bytes: &[u8]) -> Option<(GateName, &[u8])>
     ensures some { IfSome result (λ r. bytes.now ≡ gate_text r.0 ++ 32 ∷ r.1.now) }
     ensures none { IfNone result ((name : Names) (rest : Values ℕ) → bytes.now ≡ gate_text name ++ 32 ∷ rest → ⊥) }
 {
+    if let Some((name, rest)) = take_late_name(bytes) {
+        return Some((name, rest));
+    }
     let Some((word, rest)) = cut_space(bytes) else {
         return None;
     };
     match GateName::from_text(word) {
         Some(name) => Some((name, rest)),
         None => None,
+    }
+}
+
+/// The name with which the bytes begin, where it is one of the last ten, and what follows the space behind it. They are told by their bytes:
+/// to compare the bytes with one name after the other takes as long as to read the rest of the line.
+fn take_late_name(bytes: &[u8]) -> Option<(GateName, &[u8])>
+    ensures { IfSome result (λ r. bytes.now ≡ gate_text r.0 ++ 32 ∷ r.1.now) }
+{
+    match bytes {
+        [b'C', b'N', b'O', b'T', b' ', rest @ ..] => Some((GateName::Cnot, rest)),
+        [b'T', b'o', b'f', b'f', b'o', b'l', b'i', b' ', rest @ ..] => Some((
+            GateName::Toffoli,
+            rest,
+        )),
+        [b'F', b'r', b'e', b'd', b'k', b'i', b'n', b' ', rest @ ..] => Some((
+            GateName::Fredkin,
+            rest,
+        )),
+        [b'R', b'x', b' ', rest @ ..] => Some((GateName::Rx, rest)),
+        [b'R', b'y', b' ', rest @ ..] => Some((GateName::Ry, rest)),
+        [b'R', b'z', b' ', rest @ ..] => Some((GateName::Rz, rest)),
+        [b'P', b'r', b'e', b'p', b'X', b' ', rest @ ..] => Some((GateName::PrepX, rest)),
+        [b'P', b'r', b'e', b'p', b'Z', b' ', rest @ ..] => Some((GateName::PrepZ, rest)),
+        [b'M', b'e', b'a', b's', b'X', b' ', rest @ ..] => Some((GateName::MeasX, rest)),
+        [b'M', b'e', b'a', b's', b'Z', b' ', rest @ ..] => Some((GateName::MeasZ, rest)),
+        _ => None,
     }
 }
 

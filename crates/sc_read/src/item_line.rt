@@ -10,7 +10,7 @@ ghost use Rattle.sc_read.specs.declared.item_line.ItemLine.{ItemLine as LineValu
 ghost use Rattle.sc_read.specs.GateFronts.{counts};
 ghost use Rattle.sc_read.specs.HierFronts.{ReadsFresh, ReadsStep, ReadsItem};
 
-use crate::gate_line::{take_gate, take_next_wire, take_wire};
+use crate::gate_line::{short_gate, take_gate, take_next_wire, take_wire};
 use crate::signature::take_length;
 use sc_base::{Class, List, Memory, take_number, take_text};
 use sc_deck::{Body, Deck, first_repeat};
@@ -48,6 +48,9 @@ pub(crate) fn item_of(
     ensures some { IfOk result (λ r. IfSome r (λ item. ReadsItem turns deck.now (wires_of body.now) line.now item)) }
     ensures none { IfOk result (λ r. IfNone r ((item : LineValue) → ReadsItem turns deck.now (wires_of body.now) line.now item → ⊥)) }
 {
+    if let Some(gate) = short_gate(line, body.count(Class::Q)) {
+        return Ok(Some(ItemLine::Once(Step::Apply(gate))));
+    }
     if let Some((class, count)) = fresh_of(line) {
         return Ok(Some(ItemLine::Fresh(class, count)));
     }
