@@ -1,43 +1,99 @@
 -- Lines in their places, and the first that is not.
-use Rattle.std.proofs.Common.{◌≡◌, ◌≢◌, ℕ, suc, ◌+◌, ◌-◌, ◌<◌, ◌≤◌, Bool, true, false, List, [], ◌∷◌, ◌++◌, length, map, refl, sym, ap, ◌∙◌, subst, arith, inl, inr, append_assoc, append-nil, length-append}
-use Rattle.std.specs.Prelude.{codes, All, flat_map}
+use Rattle.std.proofs.Common.{◌≡◌, ◌≢◌, ℕ, suc, ◌+◌, ◌-◌, ◌<◌, ◌≤◌, ◌^◌, Bool, true, false, List, [], ◌∷◌, ◌++◌, length, refl, sym, ap, ◌∙◌, subst, arith, inl, inr, append_assoc, append-nil, length-append}
+use Rattle.std.specs.Prelude.{codes, decimal, All, flat_map}
 use Rattle.std.proofs.lemmas.Bool.{false≢true}
-use Rattle.std.proofs.lemmas.List.{length-map}
 use Rattle.std.proofs.lemmas.List.Concat.{flat_map-append}
 use Rattle.std.proofs.lemmas.List.Elements.{All-append}
 use Rattle.std.proofs.Common.{get_or}
+use Rattle.sc_base.specs.Lines.{IsLine, joined, NeverBreaks, ReadTo}
+use Rattle.sc_base.proofs.FeedLemmas.{NoFeed, no_feed_nil, no_feed_more, no_feed-append, no_feed_from_test, no_feed_decimal, line_from, number_line-IsLine}
+use Rattle.sc_base.proofs.TextLines.{read_nothing, read_more, read_short}
 use Rattle.sc_gate.specs.Lines.{number_line}
 use Rattle.sc_sched.specs.declared.plan.Plan.{Plan}
 use Rattle.sc_sched.specs.Legal.{Region, Step}
-use Rattle.sc_sched.specs.Text.{region_line, step_text, IsSize, IsWritable, Stage, Title, Regions, Width, Gates, Steps, Body, Over, NumberLine, InPlace, AllInPlace, joined, IsBadFrom, IsTextOf}
+use Rattle.sc_sched.specs.Text.{after_spaces, region_line, step_text, IsSize, IsWritable, Stage, Title, Regions, Width, Gates, Steps, Body, Over, NumberLine, InPlace, IsBadFrom, IsTextOf}
 use Rattle.sc_check.specs.declared.text_reader.SchedReadFault.{SchedReadFault}
 use Rattle.sc_check.specs.declared.text_reader.SchedReadFault.TheVariants.{BadSchedule, Memory}
 use Rattle.sc_check.specs.ReadFaults.{ReadsRegions, ReadsBody, IsBodyFault, IsReadFault}
 
+-- LINES
+pub title_is_line : IsLine (codes "sched 1\n")
+title_is_line = line_from (codes "sched 1") (no_feed_from_test (codes "sched 1") refl)
+
+pub step_is_line : IsLine (codes "step\n")
+step_is_line = line_from (codes "step") (no_feed_from_test (codes "step") refl)
+
+pub end_is_line : IsLine (codes "end\n")
+end_is_line = line_from (codes "end") (no_feed_from_test (codes "end") refl)
+
+pub regions_is_line : (n : ℕ) → IsSize n → IsLine (number_line (codes "regions") n)
+regions_is_line n size = number_line-IsLine (codes "regions") n (let few : n ≤ 1000000 = size.1 in omega (arith, few)) (no_feed_from_test (codes "regions") refl)
+
+pub width_is_line : (n : ℕ) → IsSize n → IsLine (number_line (codes "width") n)
+width_is_line n size = number_line-IsLine (codes "width") n (let few : n ≤ 1000000 = size.1 in omega (arith, few)) (no_feed_from_test (codes "width") refl)
+
+pub gates_is_line : (n : ℕ) → n < 2 ^ 64 → IsLine (number_line (codes "gates") n)
+gates_is_line n small = number_line-IsLine (codes "gates") n small (no_feed_from_test (codes "gates") refl)
+
+pub steps_is_line : (n : ℕ) → n ≤ 4294967295 → IsLine (number_line (codes "steps") n)
+steps_is_line n few = number_line-IsLine (codes "steps") n (omega (arith, few)) (no_feed_from_test (codes "steps") refl)
+
+positions_no_feed : (gates : ℕ) (xs : Region) → gates < 2 ^ 64 → All (λ x. x < gates) xs → NoFeed (after_spaces xs)
+positions_no_feed gates [] small below = no_feed_nil
+positions_no_feed gates (x ∷ xs) small below =
+    let here : x < gates = below 0 x (omega arith) in
+    no_feed_more 32 (decimal x ++ after_spaces xs) (λ same. absurd (omega (arith, same)))
+    (no_feed-append (decimal x) (after_spaces xs) (no_feed_decimal x (omega (arith, here, small)))
+    (positions_no_feed gates xs small (λ k d l. below (suc k) d (omega (arith, l)))))
+
+region_is_line : (gates : ℕ) (region : Region) → gates < 2 ^ 64 → IsWritable gates region → IsLine (region_line region)
+region_is_line gates region small writable =
+    line_from (codes "region" ++ after_spaces region)
+    (no_feed-append (codes "region") (after_spaces region) (no_feed_from_test (codes "region") refl) (positions_no_feed gates region small writable.1))
+
+-- region lines after what was read
+pub regions_read : (gates left : ℕ) (from : Stage) (text : List ℕ) (first : ℕ) (step : Step) (rest last : List ℕ) (number : ℕ) → gates < 2 ^ 64 → All (IsWritable gates) step →
+    rest ≡ flat_map region_line step ++ last → ReadTo (InPlace gates) from text first (Body true left) rest number → ReadTo (InPlace gates) from text first (Body true left) last (number + length step)
+regions_read gates left from text first [] rest last number small h e reads =
+    let same : number ≡ number + 0 = omega arith in
+    subst (λ (z : ℕ). ReadTo (InPlace gates) from text first (Body true left) last z) same
+    (subst (λ (z : List ℕ). ReadTo (InPlace gates) from text first (Body true left) z number) e reads)
+regions_read gates left from text first (r ∷ step) rest last number small h e reads =
+    let writable : IsWritable gates r = h 0 r (omega arith) in
+    let one : ReadTo (InPlace gates) from text first (Body true left) (flat_map region_line step ++ last) (number + 1) =
+    read_more (InPlace gates) from text first (Body true left) rest number (region_line r) (flat_map region_line step ++ last) (Body true left) reads (region_is_line gates r small writable)
+    (e ∙ append_assoc (region_line r) (flat_map region_line step) last)
+    (inr (inl (record { left = left; region = r; writable = writable; stage_is = refl; line_is = refl; next_is = refl }))) in
+    let same : (number + 1) + length step ≡ number + suc (length step) = omega arith in
+    subst (λ (z : ℕ). ReadTo (InPlace gates) from text first (Body true left) last z) same
+    (regions_read gates left from text first step (flat_map region_line step ++ last) last (number + 1) small (λ k d l. h (suc k) d (omega (arith, l))) refl one)
+
+-- BAD LINES
 pub bad_here : (gates : ℕ) (stage : Stage) (text : List ℕ) (first : ℕ) → (stage ≡ Over → text ≢ []) →
     ((line more : List ℕ) (next : Stage) → text ≡ line ++ more → InPlace gates stage line next → ⊥) → IsBadFrom gates stage text first first
 bad_here gates stage text first whole none = record {
-  lines = [];
-  rest = text;
   stage = stage;
-  text_is = refl;
-  in_place = refl;
+  rest = text;
+  reads = read_nothing (InPlace gates) stage text first;
   not_whole = whole;
-  no_line = none;
-  number_is = omega arith;
+  no_line = λ line more next is there goes. none line more next there goes;
+  no_limit = λ line more limit is there breaks. breaks;
 }
 
-pub bad_after : (gates : ℕ) (stage next : Stage) (text line more : List ℕ) (first number : ℕ) → text ≡ line ++ more → InPlace gates stage line next → IsBadFrom gates next more (first + 1) number →
-    IsBadFrom gates stage text first number
-bad_after gates stage next text line more first number e here bad = record {
-  lines = line ∷ bad.lines;
-  rest = bad.rest;
+pub bad_after : (gates : ℕ) (stage next : Stage) (text line more : List ℕ) (first number : ℕ) → text ≡ line ++ more → IsLine line → InPlace gates stage line next →
+    IsBadFrom gates next more (first + 1) number → IsBadFrom gates stage text first number
+bad_after gates stage next text line more first number e is here bad = record {
   stage = bad.stage;
-  text_is = e ∙ (ap (λ (z : List ℕ). line ++ z) bad.text_is ∙ sym (append_assoc line (joined bad.lines) bad.rest));
-  in_place = (next, here, bad.in_place);
+  rest = bad.rest;
+  reads = record {
+    lines = line ∷ bad.reads.lines;
+    text_is = e ∙ (ap (λ (z : List ℕ). line ++ z) bad.reads.text_is ∙ sym (append_assoc line (joined bad.reads.lines) bad.rest));
+    go = (next, is, here, bad.reads.go);
+    number_is = (let e : number ≡ (first + 1) + length bad.reads.lines = bad.reads.number_is in omega (arith, e));
+  };
   not_whole = bad.not_whole;
   no_line = bad.no_line;
-  number_is = (let e : number ≡ (first + 1) + length bad.lines = bad.number_is in omega (arith, e));
+  no_limit = bad.no_limit;
 }
 
 -- no line of this number's form stands there
@@ -65,43 +121,23 @@ steps_bad gates text none = number_bad gates Steps (codes "steps") (λ n. n ≤ 
     (λ n more p e. none n more (omega arith) p e)
 
 pub after_title : (gates : ℕ) (text more : List ℕ) (number : ℕ) → text ≡ codes "sched 1\n" ++ more → IsBadFrom gates Regions more 2 number → IsBadFrom gates Title text 1 number
-after_title gates text more number e bad = bad_after gates Title Regions text (codes "sched 1\n") more 1 number e (refl, refl) bad
+after_title gates text more number e bad = bad_after gates Title Regions text (codes "sched 1\n") more 1 number e title_is_line (refl, refl) bad
 
 pub after_regions : (gates : ℕ) (text more : List ℕ) (n number : ℕ) → text ≡ number_line (codes "regions") n ++ more → 1 ≤ n → n ≤ 1000000 → IsBadFrom gates Width more 3 number → IsBadFrom gates Regions text 2 number
 after_regions gates text more n number e l h bad =
-    bad_after gates Regions Width text (number_line (codes "regions") n) more 2 number e (record { number = n; allowed = (l, h); line_is = refl; next_is = refl }) bad
+    bad_after gates Regions Width text (number_line (codes "regions") n) more 2 number e (regions_is_line n (l, h)) (record { number = n; allowed = (l, h); line_is = refl; next_is = refl }) bad
 
 pub after_width : (gates : ℕ) (text more : List ℕ) (n number : ℕ) → text ≡ number_line (codes "width") n ++ more → 1 ≤ n → n ≤ 1000000 → IsBadFrom gates Gates more 4 number → IsBadFrom gates Width text 3 number
 after_width gates text more n number e l h bad =
-    bad_after gates Width Gates text (number_line (codes "width") n) more 3 number e (record { number = n; allowed = (l, h); line_is = refl; next_is = refl }) bad
+    bad_after gates Width Gates text (number_line (codes "width") n) more 3 number e (width_is_line n (l, h)) (record { number = n; allowed = (l, h); line_is = refl; next_is = refl }) bad
 
-pub after_gates : (gates : ℕ) (text more : List ℕ) (n number : ℕ) → text ≡ number_line (codes "gates") n ++ more → gates ≤ n → n ≤ gates → IsBadFrom gates Steps more 5 number → IsBadFrom gates Gates text 4 number
-after_gates gates text more n number e l h bad =
-    bad_after gates Gates Steps text (number_line (codes "gates") n) more 4 number e (record { number = n; allowed = omega (arith, l, h); line_is = refl; next_is = refl }) bad
+pub after_gates : (gates : ℕ) (text more : List ℕ) (n number : ℕ) → gates < 2 ^ 64 → text ≡ number_line (codes "gates") n ++ more → gates ≤ n → n ≤ gates → IsBadFrom gates Steps more 5 number → IsBadFrom gates Gates text 4 number
+after_gates gates text more n number small e l h bad =
+    bad_after gates Gates Steps text (number_line (codes "gates") n) more 4 number e (gates_is_line n (omega (arith, small, h))) (record { number = n; allowed = omega (arith, l, h); line_is = refl; next_is = refl }) bad
 
 pub after_steps : (gates : ℕ) (text more : List ℕ) (n number : ℕ) → text ≡ number_line (codes "steps") n ++ more → n ≤ 4294967295 → IsBadFrom gates (Body false n) more 6 number → IsBadFrom gates Steps text 5 number
 after_steps gates text more n number e h bad =
-    bad_after gates Steps (Body false n) text (number_line (codes "steps") n) more 5 number e (record { number = n; allowed = h; line_is = refl; next_is = refl }) bad
-
--- lines after lines
-pub in_place-append : (gates : ℕ) (from mid to : Stage) (xs ys : List (List ℕ)) → AllInPlace gates from xs mid → AllInPlace gates mid ys to → AllInPlace gates from (xs ++ ys) to
-in_place-append gates from mid to [] ys a b = subst (λ (z : Stage). AllInPlace gates z ys to) (sym a) b
-in_place-append gates from mid to (x ∷ xs) ys a b = (a.0, a.1, in_place-append gates a.0 mid to xs ys a.2 b)
-
-joined-append : (xs ys : List (List ℕ)) → joined (xs ++ ys) ≡ joined xs ++ joined ys
-joined-append xs ys = flat_map-append (λ line. line) xs ys
-
-joined_regions : (step : Step) → joined (map region_line step) ≡ flat_map region_line step
-joined_regions [] = refl
-joined_regions (r ∷ step) = ap (λ (z : List ℕ). region_line r ++ z) (joined_regions step)
-
-regions_in_place : (gates left : ℕ) (step : Step) → All (IsWritable gates) step → AllInPlace gates (Body true left) (map region_line step) (Body true left)
-regions_in_place gates left [] h = refl
-regions_in_place gates left (r ∷ step) h = (
-  Body true left,
-  inr (inl (record { left = left; region = r; writable = h 0 r (omega arith); stage_is = refl; line_is = refl; next_is = refl })),
-  regions_in_place gates left step (λ k d l. h (suc k) d (omega (arith, l))),
-)
+    bad_after gates Steps (Body false n) text (number_line (codes "steps") n) more 5 number e (steps_is_line n h) (record { number = n; allowed = h; line_is = refl; next_is = refl }) bad
 
 body_begun : (a c : Bool) (b d : ℕ) → Body a b ≡ Body c d → a ≡ c
 body_begun a c b d h = cc
@@ -111,70 +147,63 @@ body_left a c b d h = cc
 
 -- So many steps are read of a text after its five first lines, and the next line has this number.
 pub record StepsRead (gates count : ℕ) (text : List ℕ) (steps : List Step) (rest : List ℕ) (line : ℕ) : Type 0 where
-  pub lines : List (List ℕ)
   pub started : Bool
   pub left : ℕ
   pub left_is : length steps + left ≡ count
   pub writable : All (λ step. All (IsWritable gates) step) steps
   pub text_is : text ≡ flat_map step_text steps ++ rest
-  pub in_place : AllInPlace gates (Body false count) lines (Body started left)
-  pub joined_is : joined lines ≡ flat_map step_text steps
-  pub line_is : line ≡ 6 + length lines
+  pub reads : ReadTo (InPlace gates) (Body false count) text 6 (Body started left) rest line
   pub no_region : started ≡ true → (region : Region) (more : List ℕ) → IsWritable gates region → rest ≡ region_line region ++ more → ⊥
   pub small : line + length rest ≤ 6 + length text
 
 pub steps_start : (gates count : ℕ) (text : List ℕ) → StepsRead gates count text [] text 6
 steps_start gates count text = record {
-  lines = [];
   started = false;
   left = count;
   left_is = omega arith;
   writable = λ k d l. absurd (omega (arith, l));
   text_is = refl;
-  in_place = refl;
-  joined_is = refl;
-  line_is = refl;
+  reads = read_nothing (InPlace gates) (Body false count) text 6;
   no_region = λ e. absurd (false≢true e);
   small = omega arith;
 }
 
-pub steps_more : (gates count : ℕ) (text : List ℕ) (steps : List Step) (rest : List ℕ) (line : ℕ) (step : Step) (after last : List ℕ) → length steps < count → StepsRead gates count text steps rest line →
+-- one more step
+pub steps_more : (gates count : ℕ) (text : List ℕ) (steps : List Step) (rest : List ℕ) (line : ℕ) (step : Step) (after last : List ℕ) → gates < 2 ^ 64 → length steps < count → StepsRead gates count text steps rest line →
     rest ≡ codes "step\n" ++ after → ReadsRegions gates after step last → StepsRead gates count text (steps ++ step ∷ []) last (line + (1 + length step))
-steps_more gates count text steps rest line step after last more h begins r =
+steps_more gates count text steps rest line step after last below more h begins r =
     let left : ℕ = h.left - 1 in
     let left_is : h.left ≡ suc left = (let e : length steps + h.left ≡ count = h.left_is in omega (arith, e, more)) in
-    let new : List (List ℕ) = codes "step\n" ∷ map region_line step in
-    let fresh : joined new ≡ step_text step = ap (λ (z : List ℕ). codes "step\n" ++ z) (joined_regions step) in
     let added : flat_map step_text (steps ++ step ∷ []) ≡ flat_map step_text steps ++ step_text step =
     flat_map-append step_text steps (step ∷ []) ∙ ap (λ (z : List ℕ). flat_map step_text steps ++ z) (append-nil (step_text step)) in
+    let begun : ReadTo (InPlace gates) (Body false count) text 6 (Body true left) after (line + 1) =
+    read_more (InPlace gates) (Body false count) text 6 (Body h.started h.left) rest line (codes "step\n") after (Body true left) h.reads step_is_line begins
+    (inl (record { begun = h.started; left = left; stage_is = ap (Body h.started) left_is; line_is = refl; next_is = refl })) in
+    let same : (line + 1) + length step ≡ line + (1 + length step) = omega arith in
+    let reads : ReadTo (InPlace gates) (Body false count) text 6 (Body true left) last (line + (1 + length step)) =
+    subst (λ (z : ℕ). ReadTo (InPlace gates) (Body false count) text 6 (Body true left) last z) same
+    (regions_read gates left (Body false count) text 6 step after last (line + 1) below r.writable r.text_is begun) in
     record {
-      lines = h.lines ++ new;
       started = true;
       left = left;
       left_is = rw length-append (let e : length steps + h.left ≡ count = h.left_is in omega (arith, e, left_is));
       writable = All-append (λ step. All (IsWritable gates) step) steps (step ∷ []) h.writable (λ k d l. (let e : k ≡ 0 = omega (arith, l) in rw e r.writable));
       text_is = h.text_is ∙ (ap (λ (z : List ℕ). flat_map step_text steps ++ z) (begins ∙ (ap (λ (z : List ℕ). codes "step\n" ++ z) r.text_is ∙ sym (append_assoc (codes "step\n") (flat_map region_line step) last)))
           ∙ (sym (append_assoc (flat_map step_text steps) (step_text step) last) ∙ ap (λ (z : List ℕ). z ++ last) (sym added)));
-      in_place = in_place-append gates (Body false count) (Body h.started h.left) (Body true left) h.lines new h.in_place
-          (Body true left, inl (record { begun = h.started; left = left; stage_is = ap (Body h.started) left_is; line_is = refl; next_is = refl }), regions_in_place gates left step r.writable);
-      joined_is = joined-append h.lines new ∙ (ap (λ (z : List ℕ). z ++ joined new) h.joined_is ∙ (ap (λ (z : List ℕ). flat_map step_text steps ++ z) fresh ∙ sym added));
-      line_is = rw length-append (let a : line ≡ 6 + length h.lines = h.line_is in let b : length (map region_line step) ≡ length step = length-map step region_line in omega (arith, a, b));
+      reads = reads;
       no_region = λ e. r.no_more;
-      small = (let a : line + length rest ≤ 6 + length text = h.small in let b : length rest ≡ 5 + length after = ap length begins ∙ length-append (codes "step\n") after in
-          let c : length step + length last ≤ length after = r.shorter in omega (arith, a, b, c));
+      small = read_short (InPlace gates) (Body false count) text 6 (Body true left) last (line + (1 + length step)) reads;
     }
 
 bad_at : (gates count : ℕ) (text : List ℕ) (steps : List Step) (rest : List ℕ) (line : ℕ) → (h : StepsRead gates count text steps rest line) →
     ((here more : List ℕ) (next : Stage) → rest ≡ here ++ more → InPlace gates (Body h.started h.left) here next → ⊥) → IsBadFrom gates (Body false count) text 6 line
 bad_at gates count text steps rest line h none = record {
-  lines = h.lines;
-  rest = rest;
   stage = Body h.started h.left;
-  text_is = h.text_is ∙ ap (λ (z : List ℕ). z ++ rest) (sym h.joined_is);
-  in_place = h.in_place;
+  rest = rest;
+  reads = h.reads;
   not_whole = λ e. cc;
-  no_line = none;
-  number_is = h.line_is;
+  no_line = λ here more next is there goes. none here more next there goes;
+  no_limit = λ here more limit is there breaks. breaks;
 }
 
 -- a step has to begin, and none does
@@ -203,18 +232,15 @@ no_end_line gates count text steps rest line all h none = bad_at gates count tex
 pub past_end : (gates count : ℕ) (text : List ℕ) (steps : List Step) (rest : List ℕ) (line : ℕ) (last : List ℕ) → count ≤ length steps → StepsRead gates count text steps rest line →
     rest ≡ codes "end\n" ++ last → last ≢ [] → IsBadFrom gates (Body false count) text 6 (line + 1)
 past_end gates count text steps rest line last all h e some =
-    let zero_left : h.left ≡ 0 = (let s : length steps + h.left ≡ count = h.left_is in omega (arith, s, all)) in
+    let none_left : h.left ≡ 0 = (let s : length steps + h.left ≡ count = h.left_is in omega (arith, s, all)) in
     record {
-      lines = h.lines ++ codes "end\n" ∷ [];
-      rest = last;
       stage = Over;
-      text_is = h.text_is ∙ (ap (λ (z : List ℕ). flat_map step_text steps ++ z) e ∙ (sym (append_assoc (flat_map step_text steps) (codes "end\n") last)
-          ∙ ap (λ (z : List ℕ). z ++ last) (ap (λ (z : List ℕ). z ++ codes "end\n") (sym h.joined_is) ∙ sym (joined-append h.lines (codes "end\n" ∷ [])))));
-      in_place = in_place-append gates (Body false count) (Body h.started h.left) Over h.lines (codes "end\n" ∷ []) h.in_place
-          (Over, inr (inr (record { begun = h.started; stage_is = ap (Body h.started) zero_left; line_is = refl; next_is = refl })), refl);
+      rest = last;
+      reads = read_more (InPlace gates) (Body false count) text 6 (Body h.started h.left) rest line (codes "end\n") last Over h.reads end_is_line e
+          (inr (inr (record { begun = h.started; stage_is = ap (Body h.started) none_left; line_is = refl; next_is = refl })));
       not_whole = λ o. some;
-      no_line = λ here more next e p. p;
-      number_is = rw length-append (let a : line ≡ 6 + length h.lines = h.line_is in omega (arith, a));
+      no_line = λ here more next is there p. p;
+      no_limit = λ here more limit is there breaks. breaks;
     }
 
 pub body_read : (gates count : ℕ) (text : List ℕ) (steps : List Step) (rest : List ℕ) (line : ℕ) → length steps ≡ count → StepsRead gates count text steps rest line →
@@ -277,14 +303,14 @@ text_read gates text t1 t2 t3 t4 body k d g count steps e1 e2 bk e3 bd e4 bg e5 
     }
 
 -- what the reader of the steps answers is what the whole reader does
-pub fault_read : (gates : ℕ) (text t1 t2 t3 t4 body : List ℕ) (k d g count : ℕ) (fault : SchedReadFault) →
+pub fault_read : (gates : ℕ) (text t1 t2 t3 t4 body : List ℕ) (k d g count : ℕ) (fault : SchedReadFault) → gates < 2 ^ 64 →
     text ≡ codes "sched 1\n" ++ t1 → t1 ≡ number_line (codes "regions") k ++ t2 → (1 ≤ k) × (k ≤ 1000000) → t2 ≡ number_line (codes "width") d ++ t3 → (1 ≤ d) × (d ≤ 1000000) →
     t3 ≡ number_line (codes "gates") g ++ t4 → (gates ≤ g) × (g ≤ gates) → t4 ≡ number_line (codes "steps") count ++ body → count ≤ 4294967295 → IsBodyFault gates count body fault →
     IsReadFault gates text fault
-fault_read gates text t1 t2 t3 t4 body k d g count Memory e1 e2 bk e3 bd e4 bg e5 bc bad = tt
-fault_read gates text t1 t2 t3 t4 body k d g count (BadSchedule line) e1 e2 bk e3 bd e4 bg e5 bc bad =
+fault_read gates text t1 t2 t3 t4 body k d g count Memory small e1 e2 bk e3 bd e4 bg e5 bc bad = tt
+fault_read gates text t1 t2 t3 t4 body k d g count (BadSchedule line) small e1 e2 bk e3 bd e4 bg e5 bc bad =
     after_title gates text t1 line e1 (after_regions gates t1 t2 k line e2 bk.0 bk.1 (after_width gates t2 t3 d line e3 bd.0 bd.1
-    (after_gates gates t3 t4 g line e4 bg.0 bg.1 (after_steps gates t4 body count line e5 bc bad))))
+    (after_gates gates t3 t4 g line small e4 bg.0 bg.1 (after_steps gates t4 body count line e5 bc bad))))
 
 -- the positions of a schedule that was read are those of the list
 pub read_in_range : (gates : ℕ) (text : List ℕ) (s : Plan) → IsTextOf gates text s → All (λ step. All (λ region. All (λ x. x < gates) region) step) s.steps

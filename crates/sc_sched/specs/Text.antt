@@ -1,5 +1,6 @@
 -- Schedule texts, and the first line of a text that is not in its place.
-use Rattle.std.specs.Prelude.{◌≡◌, ◌≢◌, ℕ, suc, ◌+◌, ◌<◌, ◌≤◌, Bool, true, false, List, [], ◌∷◌, ◌++◌, length, codes, decimal, flat_map, All, ◌⊎◌}
+use Rattle.std.specs.Prelude.{◌≡◌, ℕ, suc, ◌<◌, ◌≤◌, Bool, true, false, List, [], ◌∷◌, ◌++◌, length, codes, decimal, flat_map, All, ◌⊎◌}
+use Rattle.sc_base.specs.Lines.{NeverBreaks, IsFirstBad}
 use Rattle.sc_gate.specs.Lines.{number_line}
 use Rattle.sc_sched.specs.declared.plan.Plan.{Plan}
 use Rattle.sc_sched.specs.Legal.{Region, Step}
@@ -97,25 +98,14 @@ InPlace gates Steps line next = NumberLine (codes "steps") (λ n. n ≤ 42949672
 InPlace gates (Body begun left) line next = BeginsStep (Body begun left) line next ⊎ (AddsRegion gates (Body begun left) line next ⊎ EndsText (Body begun left) line next)
 InPlace gates Over line next = ⊥
 
--- each line is in its place, from one stage to another
-abbrev pub AllInPlace : ℕ → Stage → List (List ℕ) → Stage → Type 0
-AllInPlace gates from [] to = from ≡ to
-AllInPlace gates from (line ∷ lines) to = (next : Stage) × InPlace gates from line next × AllInPlace gates next lines to
-
-abbrev pub joined : List (List ℕ) → List ℕ
-joined lines = flat_map (λ line. line) lines
+-- the text may end behind its last line alone
+abbrev pub IsOver : Stage → Type 0
+IsOver stage = stage ≡ Over
 
 -- The first line that is not in its place, in a text that begins at this stage and with the line of this number; where all
--- lines are in their places and the text ends too early, the one after them.
-pub record IsBadFrom (gates : ℕ) (from : Stage) (text : List ℕ) (first number : ℕ) : Type 0 where
-  pub lines : List (List ℕ)
-  pub rest : List ℕ
-  pub stage : Stage
-  pub text_is : text ≡ joined lines ++ rest
-  pub in_place : AllInPlace gates from lines stage
-  pub not_whole : stage ≡ Over → rest ≢ []
-  pub no_line : (line more : List ℕ) (next : Stage) → rest ≡ line ++ more → InPlace gates stage line next → ⊥
-  pub number_is : number ≡ first + length lines
+-- lines are in their places and the text ends too early, the one after them. There is no limit that a line can pass.
+abbrev pub IsBadFrom : ℕ → Stage → List ℕ → ℕ → ℕ → Type 0
+IsBadFrom gates from text first number = IsFirstBad (InPlace gates) (NeverBreaks {Limit = Unit {0}}) IsOver from text first number
 
 -- the first line of a text, from 1, that is not in its place
 abbrev pub IsBadLine : ℕ → List ℕ → ℕ → Type 0

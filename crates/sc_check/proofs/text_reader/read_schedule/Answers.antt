@@ -1,5 +1,9 @@
-use Rattle.sc_check.proofs.LineLemmas.{regions_bad, width_bad, gates_bad, steps_bad, after_title, after_regions, after_width, after_gates, text_read, fault_read}
+use Rattle.std.proofs.Common.{arith}
+use Rattle.sc_check.proofs.LineLemmas.{title_bad, regions_bad, width_bad, gates_bad, steps_bad, after_title, after_regions, after_width, after_gates, text_read, fault_read}
 use Rattle.sc_check.proofs.text_reader.read_schedule.Goals as goal
+
+pub returns-in_default-clause-fault : goal.returns-in_default-clause-fault
+returns-in_default-clause-fault c = title_bad c.args.gates c.args.text.now c.in_default.ensures.none
 
 pub returns-in_default-take_number_line-clause-fault : goal.returns-in_default-take_number_line-clause-fault
 returns-in_default-take_number_line-clause-fault c =
@@ -24,7 +28,7 @@ returns-in_default-take_number_line-4-clause-fault c =
     after_title c.args.gates c.args.text.now c.in-Some.after_title.now 5 c.in-Some.ensures.some
     (after_regions c.args.gates c.in-Some.after_title.now c.in-Some-take_number_line.after_k.now c.in-Some-take_number_line.k 5 c.in-Some-take_number_line.ensures.some c.in-Some-take_number_line.ensures.allowed.0 c.in-Some-take_number_line.ensures.allowed.1
     (after_width c.args.gates c.in-Some-take_number_line.after_k.now c.in-Some-take_number_line-2.after_d.now c.in-Some-take_number_line-2.d 5 c.in-Some-take_number_line-2.ensures.some c.in-Some-take_number_line-2.ensures.allowed.0 c.in-Some-take_number_line-2.ensures.allowed.1
-    (after_gates c.args.gates c.in-Some-take_number_line-2.after_d.now c.in-Some-take_number_line-3.after_gates.now c.in-Some-take_number_line-3.field-0-0 5 c.in-Some-take_number_line-3.ensures.some c.in-Some-take_number_line-3.ensures.allowed.0 c.in-Some-take_number_line-3.ensures.allowed.1
+    (after_gates c.args.gates c.in-Some-take_number_line-2.after_d.now c.in-Some-take_number_line-3.after_gates.now c.in-Some-take_number_line-3.field-0-0 5 (omega arith) c.in-Some-take_number_line-3.ensures.some c.in-Some-take_number_line-3.ensures.allowed.0 c.in-Some-take_number_line-3.ensures.allowed.1
     (steps_bad c.args.gates c.in-Some-take_number_line-3.after_gates.now c.in_default-take_number_line-4.ensures.none))))
 
 pub returns-in-Ok-clause-ok : goal.returns-in-Ok-clause-ok
@@ -38,5 +42,5 @@ pub returns-in-Err-clause-fault : goal.returns-in-Err-clause-fault
 returns-in-Err-clause-fault c =
     fault_read c.args.gates c.args.text.now c.in-Some.after_title.now c.in-Some-take_number_line.after_k.now c.in-Some-take_number_line-2.after_d.now c.in-Some-take_number_line-3.after_gates.now
     c.in-Some-take_number_line-4.body.now c.in-Some-take_number_line.k c.in-Some-take_number_line-2.d c.in-Some-take_number_line-3.field-0-0 c.in-Some-take_number_line-4.count c.in-Err.fault
-    c.in-Some.ensures.some c.in-Some-take_number_line.ensures.some c.in-Some-take_number_line.ensures.allowed c.in-Some-take_number_line-2.ensures.some c.in-Some-take_number_line-2.ensures.allowed
+    (omega arith) c.in-Some.ensures.some c.in-Some-take_number_line.ensures.some c.in-Some-take_number_line.ensures.allowed c.in-Some-take_number_line-2.ensures.some c.in-Some-take_number_line-2.ensures.allowed
     c.in-Some-take_number_line-3.ensures.some c.in-Some-take_number_line-3.ensures.allowed c.in-Some-take_number_line-4.ensures.some c.in-Some-take_number_line-4.ensures.allowed.1 c.in-Err.ensures.fault
