@@ -1,11 +1,11 @@
 #!/usr/bin/env python3
 """Feeds the built program with mutated inputs, and checks what can be checked of any answer.
 
-    fuzz.py PROGRAM [--inputs N] [--seed S] [--jobs J] [--bytes B] [--keep FOLDER]
+    fuzz.py PROGRAM [--inputs N] [--seed S] [--jobs J] [--bytes B] [--seconds T] [--keep FOLDER]
 
-Each input is one of examples/ or of the texts in answers/, changed at some bytes, tokens or lines, with numbers at the limits of the
-language in the place of others, or with a part of another text; one in twenty is a list of words over small texts. The program runs on
-it in several modes, each run in at most 10 seconds and B bytes (2 GiB; 0 is no limit). Rules:
+Each input is one of examples/, of the texts in answers/ or of the random sources of programs.py, changed at some bytes, tokens or lines,
+with numbers at the limits of the language in the place of others, or with a part of another text. One in twenty is a list of words over
+small texts. The program runs on it in several modes, each run in at most T seconds (10) and B bytes (2 GiB; 0 is no limit). Rules:
 
 - no run ends by a signal or takes longer;
 - the exit status and the fault line agree, a place lies in the text, and after a refusal the output is empty;
@@ -25,6 +25,7 @@ Inputs that break a rule are written to FOLDER. The last line is `N inputs, M ru
 import argparse
 import collections
 import concurrent.futures
+import itertools
 import os
 import random
 import re
@@ -34,9 +35,9 @@ import sys
 import tempfile
 
 import flat_lists
+import programs
 
 TOP = os.path.dirname(os.path.dirname(os.path.abspath(__file__)))
-SECONDS = 10
 LIMIT = 20000  # gates written flat
 LISTED = 4194304
 NUMBERS = [0, 1, 2, 3, 15, 16, 17, 63, 64, 65, 126, 127, 128, 129, 254, 255, 256, 257, 65535, 65536, 65537, 1000000, 1000001, 1048575,
@@ -80,8 +81,8 @@ def must(holds, what):
 class Room:
     """A folder in which the program runs on the texts that are put there."""
 
-    def __init__(self, program, folder):
-        self.program, self.folder, self.runs = program, folder, 0
+    def __init__(self, program, seconds, folder):
+        self.program, self.seconds, self.folder, self.runs = program, seconds, folder, 0
 
     def put(self, name, text):
         with open(os.path.join(self.folder, name), "wb") as file:
@@ -95,9 +96,9 @@ class Room:
         """Runs the program, and checks its status against its fault line."""
         self.runs += 1
         try:
-            done = subprocess.run([self.program, *words], cwd=self.folder, stdin=subprocess.DEVNULL, capture_output=True, timeout=SECONDS)
+            done = subprocess.run([self.program, *words], cwd=self.folder, stdin=subprocess.DEVNULL, capture_output=True, timeout=self.seconds)
         except subprocess.TimeoutExpired:
-            raise Broken(f"{words}: no end within {SECONDS} seconds") from None
+            raise Broken(f"{words}: no end within {self.seconds} seconds") from None
         status, out, err = done.returncode, done.stdout, done.stderr
         must(status >= 0, f"{words}: signal {-status}")
         if status in (0, 6):
@@ -110,13 +111,12 @@ class Room:
         return Answer(status, out, fault[4].decode(), err)
 
     def check_place(self, fault, words):
-        """That the place of a fault lies in the text that was read last."""
-        column = int(fault[2]) if fault[1] else 1
-        line = int(fault[1] or fault[3] or 0)
+        """That the place of a fault lies in a text that was read."""
+        line, column = int(fault[1] or fault[3] or 0), int(fault[2] or 1)
         if line:
-            lines = self.text(words[-1]).split(b"\n")
-            must(1 <= line <= len(lines) + 1 and column >= 1, f"{words}: no place {fault[0]!r}")
-            must(not fault[1] or line <= len(lines) and column <= len(lines[line - 1]) + 1, f"{words}: no place {fault[0]!r}")
+            texts = [self.text(it).split(b"\n") for it in words[-2 if words[0] == "check" else -1:]]
+            fits = [line <= len(it) and (not fault[1] or column <= len(it[line - 1]) + 1) for it in texts]
+            must(any(fits) and line >= 1 and column >= 1, f"{words}: no place {fault[0]!r}")
 
 
 def by_numbers(mode, told):
@@ -140,7 +140,7 @@ class SourceCase:
     """A source `a` in a room, with the words that were drawn for it."""
 
     def __init__(self, room, chance):
-        self.room = room
+        self.room, self.chance = room, chance
         self.keep = ["--keep"] if chance.random() < 0.5 else []
         self.probes = [it for it in PROBES if chance.random() < 0.4]
         self.regions, self.width = chance.choice([1, 2, 3, 1000000]), chance.choice([1, 2, 3, 3, 3, 1000000])
@@ -165,6 +165,8 @@ class SourceCase:
         words = {"flat": ["--limit", str(LIMIT), *self.asked()], "coarse": self.machine()}
         if not large:
             words.update({"schedule": self.machine(), "open": [], "cancel": self.asked()})
+        if hier.status != 0:  # they have the front in common: one of them is enough
+            words = dict([self.chance.choice(list(words.items()))])
         answers = {"hier": hier, "count": count, **{mode: self.run(mode, *it) for mode, it in words.items()}}
         if any(it.fault == "Memory" for it in answers.values()):
             return
@@ -321,9 +323,9 @@ def with_bytes(text, chance):
     return text[:at] + f" {chance.choice(WORDS)} ".encode() + text[at:]
 
 
-def mutated(text, texts, chance):
+def mutated(text, texts, changes, chance):
     """The text with some changes."""
-    for _ in range(chance.choice([0, 1, 1, 1, 2, 3, 6])):
+    for _ in range(changes):
         kind = chance.randrange(9)
         if kind < 2:
             text = with_bytes(text, chance)
@@ -362,10 +364,10 @@ def seeds():
 
 def attempt(job):
     """One input: how many runs, and what is broken, if anything."""
-    program, text, seed = job
+    program, seconds, text, seed = job
     chance = random.Random(seed)
     with tempfile.TemporaryDirectory() as folder:
-        room = Room(program, folder)
+        room = Room(program, seconds, folder)
         try:
             if text is None:
                 check_words(room, chance)
@@ -378,19 +380,35 @@ def attempt(job):
     return room.runs, None
 
 
-def jobs_of(program, texts, asked):
+def drawn(texts, chance):
+    """An input: a text, or nothing for words."""
+    kind = chance.random()
+    if kind < 0.05:
+        return None
+    if kind < 0.45:
+        return mutated(programs.source(chance), texts, chance.choice([0, 0, 0, 1, 1, 2]), chance)
+    return mutated(chance.choice(texts), texts, chance.choice([0, 1, 1, 1, 2, 3, 6]), chance)
+
+
+def jobs_of(texts, asked):
     """The inputs, each with a seed of its own."""
     for number in range(asked.inputs):
         seed = f"{asked.seed}.{number}"
-        chance = random.Random(seed)
-        words = chance.random() < 0.05
-        yield program, None if words else mutated(chance.choice(texts), texts, chance), seed
+        yield os.path.abspath(asked.program), asked.seconds, drawn(texts, random.Random(seed)), seed
 
 
 def limited(count):
     if count:
         resource.setrlimit(resource.RLIMIT_AS, (count, count))
     resource.setrlimit(resource.RLIMIT_CORE, (0, 0))
+
+
+def tell(folder, job, why):
+    """Keeps an input that breaks a rule."""
+    os.makedirs(folder, exist_ok=True)
+    with open(os.path.join(folder, job[3]), "wb") as file:
+        file.write(job[2] or b"")
+    print(f"{job[3]}: {why}", flush=True)
 
 
 def main():
@@ -400,22 +418,19 @@ def main():
     asked.add_argument("--seed", type=int, default=1)
     asked.add_argument("--jobs", type=int, default=os.cpu_count())
     asked.add_argument("--bytes", type=int, default=2 << 30)
+    asked.add_argument("--seconds", type=int, default=10)
     asked.add_argument("--keep", default="broken")
     asked = asked.parse_args()
-    program = os.path.abspath(asked.program)
     runs = broken = 0
-    batch = list(jobs_of(program, seeds(), asked))
     with concurrent.futures.ProcessPoolExecutor(asked.jobs, initializer=limited, initargs=(asked.bytes,)) as pool:
-        for number, (job, (ran, why)) in enumerate(zip(batch, pool.map(attempt, batch, chunksize=16))):
-            runs += ran
-            if why:
-                broken += 1
-                os.makedirs(asked.keep, exist_ok=True)
-                with open(os.path.join(asked.keep, job[2]), "wb") as file:
-                    file.write(job[1] or b"")
-                print(f"{job[2]}: {why}", flush=True)
-            if number % 10000 == 9999:
-                print(f"{number + 1} inputs, {runs} runs, {broken} broken", flush=True)
+        jobs = jobs_of(seeds(), asked)
+        while batch := list(itertools.islice(jobs, 1000)):
+            for job, (ran, why) in zip(batch, pool.map(attempt, batch, chunksize=16)):
+                runs += ran
+                if why:
+                    broken += 1
+                    tell(asked.keep, job, why)
+            print(f"so far: {runs} runs, {broken} broken", flush=True)
     print(f"{asked.inputs} inputs, {runs} runs, {broken} broken")
     return 1 if broken else 0
 

@@ -1,7 +1,5 @@
 //! Probes are dropped, whatever the answer, and only those that are there tell a line.
-ghost use Rattle.std.specs.Prelude.{◌≡◌, false, IfOk};
-
-use crate::requests::{REQUESTS, ROOM, carry_with, shelf, sink};
+use crate::requests::{REQUESTS, carry_with, failing_sink, shelf, sink};
 use sc_base::{MemSink, Memory, Text};
 use sc_gate::Gate;
 use sc_probe::{KindsProbe, Probe, ReachProbe, Rule};
@@ -42,15 +40,6 @@ impl<P: Probe> Probe for Counted<P> {
     }
 }
 
-/// An output that fails at a call.
-fn failing(alloc: Global, call: u64) -> Result<MemSink, Fail>
-    ensures { IfOk result (λ out. out.is_ended ≡ false) }
-{
-    let mut out = MemSink::new(alloc, 1, ROOM)?;
-    out.fail_at(call)?;
-    Ok(out)
-}
-
 /// Hands two probes in, one of a rule that words can ask for by `--kinds` and one of another rule, over an output that fails
 /// at a call. Answers the status, and how many of them were dropped.
 fn drops(alloc: Global, request: &[&str], call: u64) -> Result<(u8, u32), Fail> {
@@ -70,7 +59,7 @@ fn drops(alloc: Global, request: &[&str], call: u64) -> Result<(u8, u32), Fail> 
             drops: drops.clone()?,
         },
     )?)?;
-    let (mut out, mut err) = (failing(alloc, call)?, sink(alloc)?);
+    let (mut out, mut err) = (failing_sink(alloc, call)?, sink(alloc)?);
     let status = carry_with(
         alloc,
         request,

@@ -1,7 +1,7 @@
 //! Requests over a shelf, an output or a sink of fault lines that fails at any of its calls.
 ghost use Rattle.std.specs.Prelude.{◌≡◌, false, IfOk};
 
-use crate::requests::{REQUESTS, ROOM, carry, shelf, sink};
+use crate::requests::{REQUESTS, carry, failing_sink, shelf, sink};
 use sc_base::{Failed, MemSink, Sink};
 use std::alloc::Global;
 use std::process::Abort;
@@ -14,12 +14,13 @@ struct Counting {
     calls: u64,
 }
 
-fn failing(alloc: Global, fails_at: u64) -> Result<Counting, Fail>
+fn counted(alloc: Global, call: u64) -> Result<Counting, Fail>
     ensures { IfOk result (λ out. out.sink.is_ended ≡ false) }
 {
-    let mut sink = MemSink::new(alloc, 1, ROOM)?;
-    sink.fail_at(fails_at)?;
-    Ok(Counting { sink, calls: 0 })
+    Ok(Counting {
+        sink: failing_sink(alloc, call)?,
+        calls: 0,
+    })
 }
 
 impl Sink for Counting {
@@ -95,7 +96,7 @@ fn fails_at(
     text: &[u8],
     call: u64,
 ) -> Result<bool, Fail> {
-    let (mut out, mut err) = (failing(alloc, call)?, sink(alloc)?);
+    let (mut out, mut err) = (counted(alloc, call)?, sink(alloc)?);
     let status = carry(alloc, request, &mut shelf(alloc)?, &mut out, &mut err)?;
     if out.ended() {
         assert_eq!(rt; (status, out.sink.written()), (0, text));
@@ -139,7 +140,7 @@ fn a_sink_of_fault_lines_fails_at_any_call(rt: HostRuntime) -> Result<(), Fail> 
     let alloc = rt.alloc();
     for (request, line, want) in REFUSED {
         for call in 1..line.len() + 3 {
-            let (mut out, mut err) = (sink(alloc)?, failing(alloc, call as u64)?);
+            let (mut out, mut err) = (sink(alloc)?, counted(alloc, call as u64)?);
             let status = carry(alloc, request, &mut shelf(alloc)?, &mut out, &mut err)?;
             assert_eq!(rt; status, want, "{request:?} at {call}");
             assert!(rt; line.as_bytes().starts_with(err.sink.written()));

@@ -74,6 +74,15 @@ pub fn sink(alloc: Global) -> Result<MemSink, Fail>
     Ok(MemSink::new(alloc, ROOM, ROOM)?)
 }
 
+/// A sink that takes a byte a call and fails at one call.
+pub fn failing_sink(alloc: Global, call: u64) -> Result<MemSink, Fail>
+    ensures { IfOk result (λ sink. sink.is_ended ≡ false) }
+{
+    let mut sink = MemSink::new(alloc, 1, ROOM)?;
+    sink.fail_at(call)?;
+    Ok(sink)
+}
+
 /// Carries out a request with these probes, and answers the status.
 pub fn carry_with<O: Sink, E: Sink>(
     alloc: Global,
