@@ -98,6 +98,9 @@ def whole_sources():
     yield "gates written flat", "flat a", TENFOLD + main_of("qbit q; t(q, 7); X(q);"), 5, "TooManyGates"
     yield "gates written flat", "flat --limit 15 a", main_of("qbit q[3]; Toffoli(q[0], q[1], q[2]);"), 0, ""
     yield "gates written flat", "flat --limit 14 a", main_of("qbit q[3]; Toffoli(q[0], q[1], q[2]);"), 5, "TooManyGates"
+    stretch = "qbit q[3]; for (int i = 0; i < 279620; i++) Toffoli(q[0], q[1], q[2]); X(q[0]); Y(q[0]); X(q[0]); Y(q[0]);"
+    yield "gates of a stretch", "coarse --regions 1 --width 3 a", main_of(stretch), 0, ""
+    yield "gates of a stretch", "coarse --regions 1 --width 3 a", main_of(f"{stretch} X(q[0]);"), 5, "SchedTooLarge"
     for words in ("schedule --regions 1 --width 1 a", "open a", "cancel a"):
         yield "gates of a list", words, DOUBLING + main_of("qbit q; m(q, 22);"), 0, ""
         yield "gates of a list", words, DOUBLING + main_of("qbit q; m(q, 22); X(q);"), 5, "SchedTooLarge"
@@ -204,6 +207,8 @@ class Bench:
     def see_limit(self, what, line, text, status, fault):
         """A request at a limit, in much and in little memory, with much and with little stack."""
         self.put("a", text)
+        if line.startswith("coarse") and self.run(line) == (1, "Unbuilt"):
+            return
         for limits in ({}, {"stack": 2 * MIB}, {"memory": 64 * MIB}, {"memory": 64 * MIB, "stack": 2 * MIB}):
             scarce = [(4, "Memory")] * ("memory" in limits)
             self.see(f"{what}: {line} {limits}", self.run(line, **limits), (status, fault), *scarce)
@@ -256,6 +261,27 @@ def half_read(bench):
             bench.see(f"a file of {count} bytes", (done.returncode, done.stderr, out.read() == whole[:count]), (7, b"scaff: WriteFault\n", True))
 
 
+def strange_words(bench):
+    """Words that no shell would give."""
+    for words, wanted in (([b"flat", b"\xff"], (2, b"")), ([b"\xff"], (2, b"")), ([], (2, b"scaff: Usage\n")), ([b""], (2, b"scaff: Usage\n")),
+                          ([b"flat"] + [b"a"] * 100000, (2, b"scaff: Usage\n")), ([b"flat", b"a" * 131000], (3, b"scaff: ReadFault\n")),
+                          ([b"flat", b""], (3, b"scaff: ReadFault\n")), ([b"flat", b"--limit=" + b"9" * 131000, b"a"], (2, b"scaff: Usage\n"))):
+        done = subprocess.run([os.fsencode(bench.program), *words], cwd=bench.folder, capture_output=True, timeout=SECONDS)
+        bench.see(f"{len(words)} words, the last {words[-1:][:20]}", (done.returncode, done.stderr), wanted)
+
+
+def stuck(bench):
+    """A pipe that nobody reads and that does not wait: what stands there is a front of the text."""
+    bench.put("a", TENFOLD + main_of("qbit q; t(q, 6);"))
+    reader, writer = os.pipe()
+    os.set_blocking(writer, False)
+    bench.see("flat a > a full pipe", bench.run("flat a", writer), (7, "WriteFault"))
+    os.close(writer)
+    with os.fdopen(reader, "rb") as pipe:
+        front = pipe.read()
+    bench.see("a full pipe", front.startswith(b"flat 1\nqbits 1\ncbits 0\ngates 1000000\nX q0\n"), True)
+
+
 def inputs(bench):
     """Files that are none, and an endless one."""
     for name in (".", "/", "/proc/self/mem", "nothing", "a/b", "x" * 300, "/proc/self/fd/999"):
@@ -264,8 +290,9 @@ def inputs(bench):
     bench.see("flat /dev/zero", bench.run("flat /dev/zero"), (5, "SourceTooLarge"))
     bench.see("expand /dev/zero", bench.run("expand /dev/zero"), (5, "SourceTooLarge"))
     bench.see("flat /dev/null", bench.run("flat /dev/null"), (1, "NoMain"))
-    told = subprocess.run(["sh", "-c", f'"{bench.program}" flat - <&- 2>&1; echo $?'], cwd=bench.folder, capture_output=True).stdout
-    bench.see("flat - <&-", told, b"scaff: ReadFault\n3\n")
+    for given in ("<&-", "< ."):
+        told = subprocess.run(["sh", "-c", f'"{bench.program}" flat - {given} 2>&1; echo $?'], cwd=bench.folder, capture_output=True).stdout
+        bench.see(f"flat - {given}", told, b"scaff: ReadFault\n3\n")
 
 
 def shrinking(bench):
@@ -317,7 +344,7 @@ def main():
         for cases in (words(), texts(), sources()):
             for case in cases:
                 bench.see_limit(*case)
-        for part in (outputs, half_read, inputs, shrinking):
+        for part in (outputs, half_read, stuck, inputs, strange_words, shrinking):
             part(bench)
         stacks(bench, asked.stack)
     print(f"{bench.passed} passed, {bench.failed} failed")

@@ -12,8 +12,8 @@ refused, and with that one and all later ones refused. Rules:
 - in `flat` with a probe that is asked for, the output may also be exactly the flat text;
 - no run ends by a signal.
 
-What refuses is a small library that is loaded before the C library, so a C compiler is wanted. The last line is `N numbers, M runs, K
-broken`, and the exit status is 1 where K is not 0.
+What refuses is a small library that is loaded before the C library, so a C compiler is wanted. The last line is `N numbers, M runs, L
+behind the flat text, K broken`, and the exit status is 1 where K is not 0.
 """
 import argparse
 import concurrent.futures
@@ -132,18 +132,19 @@ class Trial:
         return (b"", flat) if asked else (b"",)
 
     def tries(self):
-        """Refuses each number: how many there are, and what is broken."""
+        """Refuses each number: how many there are, how often that came behind the flat text, and what is broken."""
         answer, count = self.run(0, 0)
-        broken = []
+        broken, late = [], 0
         for last_of in (lambda number: number, lambda number: count + 1000000):
             silent = True
             for number in range(1, count + 1):
                 (status, out, err), _ = self.run(number, last_of(number))
                 silent = silent and (status, out, err) == (4, b"", b"")
                 refused = status == 4 and out in self.late(answer[1]) and (err == b"scaff: Memory\n" or silent)
+                late += status == 4 and out != b""
                 if (status, out, err) != answer and not refused:
                     broken.append(f"{' '.join(self.words)}: {number} refused: status {status}, {len(out)} bytes, {err!r}")
-        return answer[0], count, broken
+        return answer[0], count, late, broken
 
 
 def main():
@@ -152,7 +153,7 @@ def main():
     asked.add_argument("--jobs", type=int, default=os.cpu_count())
     asked = asked.parse_args()
     program = os.path.abspath(asked.program)
-    numbers = broken = 0
+    numbers = behind = broken = 0
     with tempfile.TemporaryDirectory() as folder, concurrent.futures.ThreadPoolExecutor(asked.jobs) as pool:
         for name, text in FILES.items():
             with open(os.path.join(folder, name), "w", encoding="utf-8") as file:
@@ -162,10 +163,10 @@ def main():
                 subprocess.run([program, *words.split()], cwd=folder, stdout=file, check=True)
         library = made_library(folder)
         trials = [Trial(program, folder, library, it.split()) for it in REQUESTS.replace("\n", "|").split("|") if it]
-        for trial, (status, count, told) in zip(trials, pool.map(Trial.tries, trials)):
-            print(f"{' '.join(trial.words)}: status {status}, {count} numbers", *told, sep="\n  ", flush=True)
-            numbers, broken = numbers + count, broken + len(told)
-    print(f"{numbers} numbers, {2 * numbers} runs, {broken} broken")
+        for trial, (status, count, late, told) in zip(trials, pool.map(Trial.tries, trials)):
+            print(f"{' '.join(trial.words)}: status {status}, {count} numbers, {late} runs end behind the flat text", *told, sep="\n  ", flush=True)
+            numbers, behind, broken = numbers + count, behind + late, broken + len(told)
+    print(f"{numbers} numbers, {2 * numbers} runs, {behind} behind the flat text, {broken} broken")
     return 1 if broken else 0
 
 
