@@ -22,9 +22,10 @@ fn refused(rt: &impl Abort, alloc: Global, mode: &str, text: &[u8]) -> Result<St
     Ok(String::from_utf8(err.written().to_vec(alloc)?)?)
 }
 
-/// The number of line feeds.
-fn line_feeds(text: &[u8]) -> usize {
-    text.iter().filter(|byte| **byte == b'\n').count()
+/// The line in which a text ends, or the one behind its last.
+fn last_line(text: &[u8]) -> usize {
+    let feeds = text.iter().filter(|byte| **byte == b'\n').count();
+    feeds.saturating_add(1)
 }
 
 /// Every front of a hierarchical text is refused at the line that it lacks or cuts.
@@ -35,7 +36,7 @@ fn a_hierarchical_text_is_cut_anywhere(rt: HostRuntime) -> Result<(), Fail> {
         let front = &text[..end];
         let line = refused(&rt, rt.alloc(), "expand", front)?;
         let mut want = String::new(rt.alloc());
-        write!(want, "scaff: line {}: BadQasm\n", line_feeds(front) + 1)?;
+        write!(want, "scaff: line {}: BadQasm\n", last_line(front))?;
         assert_eq!(rt; line.as_str(), want.as_str());
     }
     Ok(())

@@ -23,7 +23,7 @@ fn too_large(rt: &impl Abort, alloc: Global, text: &str, line: &str) -> Result<(
 fn calls_are_too_deep(rt: HostRuntime) -> Result<(), Fail> {
     let mut text = String::new(rt.alloc());
     text.push_str("hier 1\nmodule 0 m(0)\nend\n")?;
-    for i in 1..257 {
+    for i in 1..257u32 {
         write!(text, "module {i} m({i})\ncall {}\nend\n", i - 1)?;
     }
     too_large(&rt, rt.alloc(), text.as_str(), "scaff: line 770: TooDeep\n")
