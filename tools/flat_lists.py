@@ -46,13 +46,14 @@ class FlatText:
         return max([len(gate.qubits) for gate in self.gates], default=0) <= peak <= self.numbers[0]
 
 
-def longest_chain(gates):
-    """The most gates of which each shares a wire with the next one."""
-    ends = {}
+def chains(gates, times):
+    """For each gate, the duration of the longest chain that ends at it; in a chain each gate shares a wire with the next one."""
+    ends, found = {}, []
     for gate in gates:
-        end = 1 + max(ends.get(it, 0) for it in gate.wires)
+        end = times.get(gate.name, 1) + max(ends.get(it, 0) for it in gate.wires)
         ends.update((it, end) for it in gate.wires)
-    return max(ends.values(), default=0)
+        found.append(end)
+    return found
 
 
 def kinds_of(gates):

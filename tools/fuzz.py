@@ -1,23 +1,23 @@
 #!/usr/bin/env python3
 """Feeds the built program with mutated inputs, and checks what can be checked of any answer.
 
-    fuzz.py PROGRAM [--inputs N] [--seed S] [--jobs J] [--bytes B] [--seconds T] [--keep FOLDER]
+    fuzz.py PROGRAM [--beside OTHER] [--inputs N] [--seed S] [--jobs J] [--bytes B] [--seconds T] [--keep FOLDER]
 
 Each input is one of examples/, of the texts in answers/ or of the random sources of programs.py, changed at some bytes, tokens or lines,
 with numbers at the limits of the language in the place of others, or with a part of another text. One in twenty is a list of words over
 small texts. The program runs on it in several modes, each run in at most T seconds (10) and B bytes (2 GiB; 0 is no limit). Rules:
 
-- no run ends by a signal or takes longer;
+- no run ends by a signal or takes longer, and OTHER, the program as another compiler builds it, answers the same;
 - the exit status and the fault line agree, a place lies in the text, and after a refusal the output is empty;
 - where `hier` is refused, every mode of a source is refused with the same line; else each mode has only the refusals of its own, and
   those by numbers come exactly where the numbers of `count` pass the limit;
 - `expand` of `hier` is `flat`; only replaced gates can make a module too long for it;
-- the numbers of `count` are those of the lines of `flat`, and `critical` is the longest chain of them;
+- the numbers of `count` are those of the lines of `flat`, with the longest chain of them, by durations too, and `weight` is their sum;
 - the lines of probes tell of the gate lines;
-- `check` of `flat` and `schedule` is legal, and `Narrow` is the first gate that is too wide;
+- `check` of `flat` and `schedule` is legal, short lists have exactly the schedule by the order, and `Narrow` is the first wide gate;
 - `open` is the text of the gates of `flat`, and `reopen` of it the flat text of what was read;
 - `cancel` is the shortened list of `flat`;
-- `coarse` has the modules of `hier`, and its length is at least `critical` and at most `gates`;
+- `coarse` is the schedule of the items of `hier`, where these are few, and `NarrowItem` the first wide one;
 - what `expand` and `reopen` write is a flat text that `check` reads.
 
 Inputs that break a rule are written to FOLDER. The last line is `N inputs, M runs, K broken`, and the exit status is 1 where K is not 0.
@@ -35,6 +35,7 @@ import sys
 import tempfile
 
 import flat_lists
+import machines
 import programs
 
 TOP = os.path.dirname(os.path.dirname(os.path.abspath(__file__)))
@@ -66,6 +67,7 @@ OWN = {  # the refusals of a mode behind those of a source
     "open": "CountTooLarge TooManyWires SchedTooLarge", "cancel": "CountTooLarge TooManyWires SchedTooLarge",
 }
 PROBES = ["kinds", "burst", "window", "reach"]
+Way = collections.namedtuple("Way", "program beside seconds")
 Answer = collections.namedtuple("Answer", "status out fault line")
 
 
@@ -81,8 +83,8 @@ def must(holds, what):
 class Room:
     """A folder in which the program runs on the texts that are put there."""
 
-    def __init__(self, program, seconds, folder):
-        self.program, self.seconds, self.folder, self.runs = program, seconds, folder, 0
+    def __init__(self, way, folder):
+        self.way, self.folder, self.runs = way, folder, 0
 
     def put(self, name, text):
         with open(os.path.join(self.folder, name), "wb") as file:
@@ -92,15 +94,22 @@ class Room:
         with open(os.path.join(self.folder, name), "rb") as file:
             return file.read()
 
-    def run(self, *words):
-        """Runs the program, and checks its status against its fault line."""
+    def answer(self, program, words):
+        """The status, the output and the fault stream of a program."""
         self.runs += 1
         try:
-            done = subprocess.run([self.program, *words], cwd=self.folder, stdin=subprocess.DEVNULL, capture_output=True, timeout=self.seconds)
+            done = subprocess.run([program, *words], cwd=self.folder, stdin=subprocess.DEVNULL, capture_output=True, timeout=self.way.seconds)
         except subprocess.TimeoutExpired:
-            raise Broken(f"{words}: no end within {self.seconds} seconds") from None
-        status, out, err = done.returncode, done.stdout, done.stderr
-        must(status >= 0, f"{words}: signal {-status}")
+            raise Broken(f"{words}: no end within {self.way.seconds} seconds") from None
+        must(done.returncode >= 0, f"{words}: signal {-done.returncode}")
+        return done.returncode, done.stdout, done.stderr
+
+    def run(self, *words):
+        """Runs the program, and checks its status against its fault line."""
+        status, out, err = self.answer(self.way.program, words)
+        if self.way.beside:
+            other = self.answer(self.way.beside, words)
+            must(other == (status, out, err) or 4 in (status, other[0]), f"{words}: {(status, err)}, and the other program {(other[0], other[2])}")
         if status in (0, 6):
             must(not err, f"{words}: status {status}, and on the fault stream {err!r}")
             return Answer(status, out, None, err)
@@ -146,6 +155,8 @@ class SourceCase:
         self.regions, self.width = chance.choice([1, 2, 3, 1000000]), chance.choice([1, 2, 3, 3, 3, 1000000])
         self.order = chance.choice([[], ["--order", "lpfs"], ["--order=rcp"]])
         self.slow = chance.random() < 0.02
+        self.times = {it: chance.choice([1, 2, 3, 10, 1000000]) for it in flat_lists.NAMES if chance.random() < 0.1} if chance.random() < 0.4 else {}
+        self.machine = machines.Machine(self.regions, self.width, self.order == ["--order", "lpfs"], self.times)
 
     def asked(self):
         return [f"--{it}" for it in self.probes]
@@ -153,7 +164,10 @@ class SourceCase:
     def run(self, mode, *words):
         return self.room.run(mode, *self.keep, *words, "a")
 
-    def machine(self):
+    def timed(self):
+        return ["--times", ",".join(f"{name}={time}" for name, time in self.times.items())] if self.times else []
+
+    def built(self):
         return ["--regions", str(self.regions), "--width", str(self.width), *self.order]
 
     def check(self):
@@ -161,10 +175,11 @@ class SourceCase:
         hier = self.run("hier")
         count = self.run("count")
         told = report(count.out) if count.status == 0 else None
+        timed = self.times_of(told)
         large = told is not None and LIMIT < told["gates"] <= LISTED and not self.slow
-        words = {"flat": ["--limit", str(LIMIT), *self.asked()], "coarse": self.machine()}
+        words = {"flat": ["--limit", str(LIMIT), *self.asked()], "coarse": self.built()}
         if not large:
-            words.update({"schedule": self.machine(), "open": [], "cancel": self.asked()})
+            words.update({"schedule": [*self.built(), *self.timed()], "open": [], "cancel": self.asked()})
         if hier.status != 0:  # they have the front in common: one of them is enough
             words = dict([self.chance.choice(list(words.items()))])
         answers = {"hier": hier, "count": count, **{mode: self.run(mode, *it) for mode, it in words.items()}}
@@ -173,9 +188,9 @@ class SourceCase:
         for mode, answer in answers.items():
             self.check_refusal(mode, answer, hier, told)
         if hier.status == 0 and answers["flat"].status == 0:
-            self.check_texts(answers, told)
-        if hier.status == 0 and answers["coarse"].status == 0:
-            self.check_coarse(answers["coarse"], hier, told)
+            self.check_texts(answers, told, timed)
+        if hier.status == 0 and answers["coarse"].fault in (None, "NarrowItem"):
+            self.check_coarse(answers["coarse"], hier)
 
     def check_refusal(self, mode, answer, hier, told):
         """A source that is refused is refused so by every mode; else a refusal is one of the mode's own."""
@@ -187,7 +202,20 @@ class SourceCase:
         if mode != "coarse" and want or answer.fault in ("CountTooLarge", "TooManyWires", "TooManyGates"):
             must(answer.fault == want, f"{mode}: {answer.line!r}, and by its numbers {want}")
 
-    def check_texts(self, answers, told):
+    def times_of(self, told):
+        """The report with durations, where there are any: the same but for the chain, and the weight as the sum of durations."""
+        if not told or not self.times:
+            return None
+        answer = self.run("count", *self.timed())
+        weight = sum(told[it] * self.times.get(it, 1) for it in flat_lists.NAMES)
+        if answer.status != 0:
+            must(answer.fault == "Memory" or answer.fault == "CountTooLarge" and weight >= 2**128, f"count with a weight of {weight}: {answer.line!r}")
+            return None
+        timed = report(answer.out)
+        must({**timed, "critical": 0} == {**told, "critical": 0, "weight": weight}, "the report with durations has other numbers")
+        return timed
+
+    def check_texts(self, answers, told, timed):
         """The answers of a source whose flat text is written."""
         flat = flat_lists.FlatText(answers["flat"].out)
         told_of = [line for line in flat.marks]
@@ -197,7 +225,8 @@ class SourceCase:
         must((told["qubits"], told["cbits"], told["gates"]) == flat.numbers, "count has other numbers than flat")
         names = flat.names()
         must(all(told[it] == names[it] for it in flat_lists.NAMES), "count has other names than flat")
-        must(told["critical"] == flat_lists.longest_chain(flat.gates), "critical is not the longest chain")
+        for numbers, times in ((told, {}), (timed, self.times)):
+            must(not numbers or numbers["critical"] == max(flat_lists.chains(flat.gates, times), default=0), "critical is not the longest chain")
         must(flat.peak_fits(told["peak"]), "peak is no number of qubits")
         self.check_expand(answers["hier"], flat)
         self.check_schedule(answers["schedule"], flat)
@@ -215,11 +244,13 @@ class SourceCase:
             must(answer.fault in ("TooLong", "SourceTooLarge", "Memory"), f"expand of hier: {answer.line!r}")
 
     def check_schedule(self, answer, flat):
-        wide = [i for i, gate in enumerate(flat.gates) if len(gate.qubits) > self.width]
-        if wide:
-            must(answer.line == f"scaff: Narrow {wide[0]}\n".encode(), f"schedule: {answer.line!r}, and gate {wide[0]} is the first wide one")
+        wide = self.machine.first_wide(flat.gates)
+        if wide is not None:
+            must(answer.line == f"scaff: Narrow {wide}\n".encode(), f"schedule: {answer.line!r}, and gate {wide} is the first wide one")
             return
         must(answer.status == 0, f"schedule: {answer.line!r}")
+        if len(flat.gates) <= machines.FEW:
+            must(answer.out == self.machine.schedule_text(flat.gates), "schedule is not that of the order")
         self.room.put("f", flat.plain)
         self.room.put("s", answer.out)
         verdict = self.room.run("check", "f", "s")
@@ -231,12 +262,13 @@ class SourceCase:
         back = self.room.run("reopen", "o")
         must(back.status == 0 and back.out == flat_lists.reopened(flat), "reopen of open is not the flat text of its lines")
 
-    def check_coarse(self, answer, hier, told):
-        lines = answer.out.split(b"\n")
-        modules = [it for it in lines if it.startswith(b"module ")]
-        must(modules == [it for it in hier.out.split(b"\n") if it.startswith(b"module ")], "coarse has other modules than hier")
-        length = [int(it.split()[1]) for it in lines if it.startswith(b"length ")][-1]
-        must(told["critical"] <= length <= told["gates"], f"coarse has the length {length}")
+    def check_coarse(self, answer, hier):
+        plain = machines.Machine(self.regions, self.width, self.machine.lpfs)
+        narrow = machines.narrow_item(plain, hier.out)
+        if narrow or answer.status != 0:
+            must(answer.line == f"scaff: NarrowItem {narrow[0]} {narrow[1]}\n".encode(), f"coarse: {answer.line!r}, and {narrow} is the first wide item")
+        elif hier.out.count(b"\n") <= machines.FEW:
+            must(answer.out == machines.Coarse(plain, hier.out).text(), "coarse is not the schedule of the items")
 
 
 TEXTS = {
@@ -364,10 +396,10 @@ def seeds():
 
 def attempt(job):
     """One input: how many runs, and what is broken, if anything."""
-    program, seconds, text, seed = job
+    way, text, seed = job
     chance = random.Random(seed)
     with tempfile.TemporaryDirectory() as folder:
-        room = Room(program, seconds, folder)
+        room = Room(way, folder)
         try:
             if text is None:
                 check_words(room, chance)
@@ -392,9 +424,10 @@ def drawn(texts, chance):
 
 def jobs_of(texts, asked):
     """The inputs, each with a seed of its own."""
+    way = Way(os.path.abspath(asked.program), asked.beside and os.path.abspath(asked.beside), asked.seconds)
     for number in range(asked.inputs):
         seed = f"{asked.seed}.{number}"
-        yield os.path.abspath(asked.program), asked.seconds, drawn(texts, random.Random(seed)), seed
+        yield way, drawn(texts, random.Random(seed)), seed
 
 
 def limited(count):
@@ -406,14 +439,15 @@ def limited(count):
 def tell(folder, job, why):
     """Keeps an input that breaks a rule."""
     os.makedirs(folder, exist_ok=True)
-    with open(os.path.join(folder, job[3]), "wb") as file:
-        file.write(job[2] or b"")
-    print(f"{job[3]}: {why}", flush=True)
+    with open(os.path.join(folder, job[2]), "wb") as file:
+        file.write(job[1] or b"")
+    print(f"{job[2]}: {why}", flush=True)
 
 
 def main():
     asked = argparse.ArgumentParser(description="feeds the program with mutated inputs")
     asked.add_argument("program")
+    asked.add_argument("--beside")
     asked.add_argument("--inputs", type=int, default=1000)
     asked.add_argument("--seed", type=int, default=1)
     asked.add_argument("--jobs", type=int, default=os.cpu_count())
