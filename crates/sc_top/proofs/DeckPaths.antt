@@ -1,7 +1,6 @@
 -- The path tables of a whole deck, body by body.
-use Rattle.std.proofs.Common.{◌≡◌, ℕ, zero, suc, ◌+◌, ◌-◌, ◌^◌, ◌<◌, ◌≤◌, List, [], ◌∷◌, ◌++◌, map, length, get_or, take, drop, slice_get, Option, Some, None, refl, sym, ap, ◌∙◌, subst, arith, append-nil, append_assoc, length-append}
+use Rattle.std.proofs.Common.{◌≡◌, ℕ, zero, suc, ◌+◌, ◌-◌, ◌^◌, ◌<◌, ◌≤◌, List, [], ◌∷◌, ◌++◌, map, length, get_or, take, drop, slice_get, Option, Some, refl, sym, ap, ◌∙◌, subst, arith, append-nil, append_assoc, length-append}
 use Rattle.std.specs.Prelude.{IsSomeAnd}
-use Rattle.std.specs.List.{AllByRecursion}
 use Rattle.std.specs.Option.{option_map}
 use Rattle.std.proofs.lemmas.List.{take_more, take-append-drop, length-take-le, length-map}
 use Rattle.std.proofs.lemmas.Option.{get_or_from_slice_get, slice_get_within}
@@ -9,7 +8,7 @@ use Rattle.std.proofs.Math.Seq.{take-length}
 use Rattle.sc_base.specs.declared.names.Class.TheVariants.{Q, C}
 use Rattle.sc_gate.specs.declared.gate.Wire.{Wire}
 use Rattle.sc_gate.proofs.ChainLaws.{critical_chain}
-use Rattle.sc_gate.specs.Chains.{Timed, timed, critical_of, total_weight, IsCritical}
+use Rattle.sc_gate.specs.Chains.{timed, critical_of, total_weight, IsCritical}
 use Rattle.sc_gate.specs.Gates.{class_of}
 use Rattle.sc_gate.specs.Numbers.{both, no_wires}
 use Rattle.sc_deck.specs.declared.item.Item.{Item}
@@ -18,7 +17,7 @@ use Rattle.sc_deck.specs.Bodies.{Contents}
 use Rattle.sc_deck.specs.Decks.{CallFits, CallsFit, IsDeck, IsWhole}
 use Rattle.sc_deck.specs.Events.{Event, gates_in}
 use Rattle.sc_deck.specs.Keys.{params_of, param_classes}
-use Rattle.sc_deck.specs.Modules.{Module, key_of, body_of}
+use Rattle.sc_deck.specs.Modules.{Module, body_of}
 use Rattle.sc_deck.specs.Unfolding.{expansion, numbered, of_class}
 use Rattle.sc_deck.proofs.CallLaws.{CallEarlier-at}
 use Rattle.sc_deck.proofs.ListLemmas.{slice_get_left, slice_get_there}
@@ -35,7 +34,7 @@ use Rattle.sc_path.specs.declared.fault.PathFault.TheVariants as weighing
 use Rattle.sc_path.specs.declared.paths.Paths.{Paths}
 use Rattle.sc_path.specs.declared.table.Table.{Table}
 use Rattle.sc_path.specs.Places.{row_number}
-use Rattle.sc_path.specs.Tables.{CallKnown, ItemKnown, CallsKnown, Extends, StandsFor, WhyAdded, timed_gates, critical_at}
+use Rattle.sc_path.specs.Tables.{CallKnown, CallsKnown, Extends, StandsFor, WhyAdded, timed_gates, critical_at}
 use Rattle.sc_path.proofs.LawLemmas.{last_critical}
 use Rattle.sc_path.proofs.Loads.{all_fit}
 use Rattle.sc_path.proofs.PlaceLemmas.{rows_many}

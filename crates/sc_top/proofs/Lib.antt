@@ -2,12 +2,14 @@ mod CarryLemmas
 mod DeckPaths
 mod ExpansionLemmas
 mod FewGates
+mod HeadlineLaws
 mod InOrder
 pub mod ModeLemmas
 pub mod OneAnswer
 mod DrillParts
 mod DrillSizes
 mod ListLemmas
+mod ListedGates
 mod OtherLemmas
 mod RunLemmas
 mod SourceLaws

@@ -1,16 +1,10 @@
 -- The stages of `count` and of `schedule`: why they refuse, that each has one answer, and that it has one.
-use Rattle.std.proofs.Common.{◌≡◌, ℕ, ◌<◌, ◌≤◌, ◌⊎◌, Bool, true, false, List, length, map, Ok, Err, Result, refl, sym, ap, ◌∙◌, inl, inr, arith}
+use Rattle.std.proofs.Common.{◌≡◌, ℕ, ◌<◌, ◌≤◌, Bool, true, false, List, length, map, Ok, Err, Result, refl, sym, ap, ◌∙◌, inl, inr, arith}
 use Rattle.std.proofs.lemmas.Bool.{cases_lt}
 use Rattle.sc_base.specs.Limits.{most_gates}
-use Rattle.sc_count.specs.Limits.{IsTooLarge, IsWithin}
-use Rattle.sc_count.specs.declared.counts.Counts.{Counts}
-use Rattle.sc_count.specs.declared.tally.TallyFault.{TallyFault}
-use Rattle.sc_count.specs.declared.tally.TallyFault.TheVariants as counting
-use Rattle.sc_deck.specs.Events.{fresh_in, gates_in}
+use Rattle.sc_count.specs.Limits.{IsWithin}
+use Rattle.sc_deck.specs.Events.{gates_in}
 use Rattle.sc_deck.specs.Modules.{Module}
-use Rattle.sc_flat.specs.Shown.{ManyWires}
-use Rattle.sc_flat.specs.declared.preparing.PrepFault.{PrepFault}
-use Rattle.sc_flat.specs.declared.preparing.PrepFault.TheVariants as sizing
 use Rattle.sc_gate.proofs.ChainLaws.{critical_chain}
 use Rattle.sc_gate.specs.declared.gate.Gate.{Gate}
 use Rattle.sc_gate.specs.Chains.{Timed, timed, IsCritical, critical_of}
@@ -24,55 +18,26 @@ use Rattle.sc_sched.specs.declared.order.Rank.{Rank}
 use Rattle.sc_sched.specs.declared.plan.Plan.{Plan}
 use Rattle.sc_sched.specs.declared.scheduling.SchedFault.{SchedFault}
 use Rattle.sc_sched.specs.declared.scheduling.SchedFault.TheVariants as planning
-use Rattle.sc_top.specs.Expansions.{whole}
-use Rattle.sc_top.specs.Fault.{at_gate, count_refusal}
+use Rattle.sc_top.specs.Expansions.{whole, counts_by}
+use Rattle.sc_top.specs.Fault.{at_gate}
+use Rattle.sc_top.specs.Listed.{list_of}
 use Rattle.sc_top.specs.Reports.{IsSummaryOf}
-use Rattle.sc_top.specs.Scheduled.{order_by, HasFewWires, HasFewGates, IsListed, HasRoom, IsPlanOf, IsPlanned, IsScheduled, IsSchedulable, listing_refusal, schedule_refusal}
-use Rattle.sc_top.specs.Stages.{Then, stops, goes, HasOne, Why, Found, fault_of_refusal}
-use Rattle.sc_top.specs.Tallied.{counts_by, IsCountedBy, Yields, IsSummarized}
+use Rattle.sc_top.specs.Scheduled.{order_by, HasRoom, IsPlanOf, IsPlanned, IsScheduled, IsSchedulable, schedule_refusal}
+use Rattle.sc_top.specs.Stages.{stops, goes, HasOne, Found, fault_of_refusal}
+use Rattle.sc_top.specs.Tallied.{Yields, IsSummarized}
 use Rattle.sc_top.specs.declared.fault.Fault.{Fault}
 use Rattle.sc_top.specs.declared.fault.Fault.TheVariants as fault
 use Rattle.sc_top.specs.declared.fault.Refusal.{Refusal}
 use Rattle.sc_top.specs.declared.fault.Reason.TheVariants as reason
 use Rattle.sc_top.specs.declared.report.Summary.{Summary}
-use Rattle.sc_top.proofs.StageLemmas.{then_one, why_map}
-
-abbrev refused : (A : Type 0) → Refusal → Result A Refusal
-refused A refusal = Err refusal
-
-abbrev given : (A : Type 0) → A → Result A Refusal
-given A a = Ok a
+use Rattle.sc_top.proofs.ExpansionLemmas.{one_counted}
+use Rattle.sc_top.proofs.ListLemmas.{one_listed, has_list}
+use Rattle.sc_top.proofs.StageLemmas.{refused, given, then_one}
 
 -- ---- why they refuse
 
--- a stage that stops stops those behind it
-pub why_stops : {A B : Type 0} (First : Result A Refusal → Type 0) (Next : A → Result B Refusal → Type 0) (f : Fault) → Why ⊥ ⊥ ⊥ (Unit {0}) (λ r. First (Err r)) f → Found (Then First Next) (Err f)
-why_stops First Next f why = record { value = tt; fault = why_map f (λ x. x) (λ x. x) (λ x. x) (λ x. x) (λ r said. stops r said) why }
-
 pub found_memory : {A : Type 0} (Stage : Result A Refusal → Type 0) (f : Fault) → f ≡ fault.Memory → Found Stage (Err f)
 found_memory Stage f is = rw is (record { value = tt; fault = tt })
-
-pub counted_why : (times : List ℕ) (modules : List Module) (f : TallyFault) → (f ≡ counting.CountTooLarge → IsTooLarge (counts_by times modules)) →
-    Why ⊥ ⊥ ⊥ (Unit {0}) (λ r. IsCountedBy times modules (Err r)) (fault_of_refusal (count_refusal f))
-counted_why times modules counting.CountTooLarge large = (large refl, refl)
-counted_why times modules counting.Memory large = tt
-
-pub listing_why : (times : List ℕ) (modules : List Module) (f : PrepFault) → IsWithin (counts_by times modules) → (f ≡ sizing.TooManyWires → ManyWires (fresh_in (whole modules))) →
-    (f ≡ sizing.TooManyGates → (¬ (ManyWires (fresh_in (whole modules)))) × (most_gates < length (gates_in (whole modules)))) → Found (IsListed times modules) (Err (fault_of_refusal (listing_refusal f)))
-listing_why times modules sizing.TooManyWires within wires gates = record { value = tt; fault = goes tt _ within (stops _ (wires refl, refl)) }
-listing_why times modules sizing.TooManyGates within wires gates = record { value = tt; fault = goes tt _ within (goes tt _ (gates refl).0 ((gates refl).1, refl)) }
-listing_why times modules sizing.Memory within wires gates = record { value = tt; fault = tt }
-
-not_below : (limit n : ℕ) → (limit < n → ⊥) → n ≤ limit
-not_below limit n none = elim (cases_lt limit n) [
-  | inl past ↦ absurd (none past)
-  | inr within ↦ within
-]
-
--- few gates
-pub few_enough : (modules : List Module) → (ManyWires (fresh_in (whole modules)) → ⊥) → (((¬ (ManyWires (fresh_in (whole modules)))) × (most_gates < length (gates_in (whole modules)))) → ⊥) →
-    length (gates_in (whole modules)) ≤ most_gates
-few_enough modules narrow few = not_below most_gates (length (gates_in (whole modules))) (λ past. few (narrow, past))
 
 pub schedule_why : (k d : ℕ) (comes : Rank → Rank → Bool) (times : List ℕ) (gates : List Gate) (f : SchedFault) → length gates ≤ most_gates → (f ≡ planning.SchedTooLarge → most_gates < length gates) →
     ((x : ℕ) → f ≡ planning.Narrow x → IsFirstWider d gates x) → Found (IsPlanned k d comes times gates) (Err (fault_of_refusal (schedule_refusal f)))
@@ -94,18 +59,6 @@ yields_one {A = A} Value one (Ok a) (Ok b) x y = ap (given A) (one a b x y)
 yields_one Value one (Ok a) (Err s) x y = absurd y
 yields_one Value one (Err r) b x y = absurd x
 
-not_large : (c : Counts) → IsWithin c → IsTooLarge c → ⊥
-not_large c within (inl past) = let le = within.gates in omega arith
-not_large c within (inr (inl past)) = let le = within.weight in omega arith
-not_large c within (inr (inr (inl past))) = let le = within.qubits in omega arith
-not_large c within (inr (inr (inr past))) = let le = within.cbits in omega arith
-
-pub one_counted_by : (times : List ℕ) (modules : List Module) → HasOne (IsCountedBy times modules)
-one_counted_by times modules (Ok a) (Ok b) within also = refl
-one_counted_by times modules (Ok a) (Err s) within (large, was) = absurd (not_large (counts_by times modules) within large)
-one_counted_by times modules (Err r) (Ok b) (large, is) within = absurd (not_large (counts_by times modules) within large)
-one_counted_by times modules (Err r) (Err s) (large, is) (also, was) = ap (refused (Unit {0})) (is ∙ sym was)
-
 one_critical : (gates : List Timed) (m n : ℕ) → IsCritical gates m → IsCritical gates n → m ≡ n
 one_critical gates m n x y =
     let up : m ≤ n = y.bounds m x.reached in
@@ -118,22 +71,7 @@ one_summary times modules s t a b =
     λ k. record { instances = (a.instances ∙ sym b.instances) k; counts = (a.counts ∙ sym b.counts) k; critical = critical k }
 
 pub one_summarized : (times : List ℕ) (modules : List Module) → HasOne (IsSummarized times modules)
-one_summarized times modules = then_one (one_counted_by times modules) (λ counted within. yields_one (IsSummaryOf times modules) (one_summary times modules))
-
-one_few_wires : (modules : List Module) → HasOne (HasFewWires modules)
-one_few_wires modules (Ok a) (Ok b) few also = refl
-one_few_wires modules (Ok a) (Err s) few (many, was) = absurd (few many)
-one_few_wires modules (Err r) (Ok b) (many, is) few = absurd (few many)
-one_few_wires modules (Err r) (Err s) (many, is) (also, was) = ap (refused (Unit {0})) (is ∙ sym was)
-
-one_few_gates : (modules : List Module) → HasOne (HasFewGates modules)
-one_few_gates modules (Ok a) (Ok b) (few, is) (also, was) = ap (given (List Gate)) (is ∙ sym was)
-one_few_gates modules (Ok a) (Err s) (few, is) (many, was) = absurd (omega arith)
-one_few_gates modules (Err r) (Ok b) (many, is) (few, was) = absurd (omega arith)
-one_few_gates modules (Err r) (Err s) (many, is) (also, was) = ap (refused (List Gate)) (is ∙ sym was)
-
-pub one_listed : (times : List ℕ) (modules : List Module) → HasOne (IsListed times modules)
-one_listed times modules = then_one (one_counted_by times modules) (λ counted within. then_one (one_few_wires modules) (λ few narrow. one_few_gates modules))
+one_summarized times modules = then_one (one_counted times modules) (λ counted within. yields_one (IsSummaryOf times modules) (one_summary times modules))
 
 first_before : (d : ℕ) (gates : List Gate) (x y : ℕ) → IsFirstWider d gates x → IsFirstWider d gates y → x < y → ⊥
 first_before d gates x y a b before = let low = b.first x before in let high = a.wider in omega arith
@@ -178,7 +116,7 @@ pub one_planned : (k d : ℕ) (comes : Rank → Rank → Bool) (times : List ℕ
 one_planned k d comes times gates order = then_one (one_room d gates) (λ room none. yields_one (IsPlanOf k d comes times gates) (one_plan_of k d comes times gates order))
 
 pub one_scheduled : (k d : ℕ) (lpfs : Bool) (times : List ℕ) (modules : List Module) → HasOne (IsScheduled k d lpfs times modules)
-one_scheduled k d lpfs times modules = then_one (one_listed times modules) (λ gates listed. one_planned k d (order_by lpfs) times gates (lawful lpfs))
+one_scheduled k d lpfs times modules = then_one (one_listed times modules) (λ list listed. one_planned k d (order_by lpfs) times list.gates (lawful lpfs))
 
 -- ---- an answer
 
@@ -194,5 +132,5 @@ has_plan k d lpfs times modules some fits =
     let gates : List Gate = gates_in (whole modules) in
     let steps = schedule_exists (order_by lpfs) times (gates_in (whole modules)) k d (lawful lpfs) some fits.room in (
       record { k = k; d = d; gates = length gates; steps = steps.0 },
-      goes (gates_in (whole modules)) _ (goes tt _ fits.counts (goes tt _ fits.wires (fits.gates, refl))) (goes tt _ fits.room (record { regions = refl; width = refl; gates_are = refl; steps = steps.1 })),
+      goes (list_of modules) _ (has_list times modules fits.list) (goes tt _ fits.room (record { regions = refl; width = refl; gates_are = refl; steps = steps.1 })),
     )

@@ -5,8 +5,6 @@ use Rattle.sc_check.proofs.TextLaws.{one_schedule_of, no_bad_line, one_bad_line}
 use Rattle.sc_check.specs.ReadFaults.{IsReadFault}
 use Rattle.sc_check.specs.declared.text_reader.SchedReadFault.{SchedReadFault}
 use Rattle.sc_check.specs.declared.text_reader.SchedReadFault.TheVariants as planning
-use Rattle.sc_count.specs.Limits.{IsTooLarge, IsWithin}
-use Rattle.sc_count.specs.declared.counts.Counts.{Counts}
 use Rattle.sc_deck.specs.Modules.{Module}
 use Rattle.sc_meaning.proofs.OneProgram.{is_one_program}
 use Rattle.sc_meaning.specs.declared.choice.Choice.{Choice}
@@ -40,12 +38,12 @@ use Rattle.sc_top.specs.Answers.{IsText, SourceOf, Says, OfRequest, HasOneAnswer
 use Rattle.sc_words.specs.Words.{request}
 use Rattle.sc_meaning.specs.declared.choice.Choice.TheVariants.{Replace}
 use Rattle.sc_top.specs.Drills.{drill_text}
-use Rattle.sc_top.specs.Listed.{ones}
+use Rattle.sc_top.proofs.ExpansionLemmas.{one_counted}
 use Rattle.sc_top.proofs.ListLemmas.{one_listed}
 use Rattle.sc_top.proofs.ModeLemmas.{one_summarized, one_scheduled}
 use Rattle.sc_top.proofs.OtherLemmas.{one_opened, one_shortened}
 use Rattle.sc_top.specs.Endings.{Output}
-use Rattle.sc_top.specs.Expansions.{IsDeckOf, IsCounted, IsOversized, IsSized, IsWritable, IsExpansion, whole_counts}
+use Rattle.sc_top.specs.Expansions.{ones, IsDeckOf, IsOversized, IsSized, IsWritable, IsExpansion}
 use Rattle.sc_top.specs.Fault.{token_refusal, grammar_refusal, type_refusal, elab_refusal, flat_refusal, plan_refusal, hier_refusal}
 use Rattle.sc_top.specs.Sources.{IsTokens, IsTree, IsTyped, IsElaborated, IsSource}
 use Rattle.sc_top.specs.Stages.{Then, stops, goes, HasOne, HasOneLike}
@@ -57,13 +55,7 @@ use Rattle.sc_words.specs.declared.Request.TheVariants.{Hier, Flat, Count, Sched
 use Rattle.sc_top.proofs.FewGates.{few_gates}
 use Rattle.sc_top.proofs.SourceLaws.{modules_alike}
 use Rattle.sc_top.specs.Tallied.{durations}
-use Rattle.sc_top.proofs.StageLemmas.{same_some, gives_one, known_fault, then_one_like, then_one, is_one}
-
-abbrev given : (A : Type 0) → A → Result A Refusal
-given A a = Ok a
-
-abbrev refused : (A : Type 0) → Refusal → Result A Refusal
-refused A refusal = Err refusal
+use Rattle.sc_top.proofs.StageLemmas.{given, refused, same_some, gives_one, known_fault, then_one_like, then_one, is_one}
 
 not_none : {A : Type 0} {a : A} {found : Option A} → found ≡ Some a → found ≡ None → ⊥
 not_none {A} {a} some none = let impossible : Some a ≡ None = sym some ∙ none in cc
@@ -117,7 +109,7 @@ tree_alike choice a b alike _ _ (goes t r (same, typed) x) (goes u s (also, othe
 one_source : (choice : Choice) (text : List ℕ) → HasOne (IsSource choice text)
 one_source choice text = then_one (one_tokens text) (λ tokens lexed. then_one_like (tree_like text tokens) (λ a b here there alike r s x y. tree_alike choice a b alike r s x y))
 
-one_source_of : (held : List ℕ → Option (List ℕ)) (file : List ℕ) (choice : Choice) → HasOne (SourceOf held file choice)
+pub one_source_of : (held : List ℕ → Option (List ℕ)) (file : List ℕ) (choice : Choice) → HasOne (SourceOf held file choice)
 one_source_of held file choice = then_one (one_text held most_source_bytes file) (λ text read. one_source choice text)
 
 -- ---- a hierarchical text
@@ -127,18 +119,6 @@ one_deck text =
     gives_one (IsHierText text) (IsHierFault text) hier_refusal (one_hier_text text)
     (λ modules f r is read. no_hier_fault text modules f read (known_fault hier_refusal reading.Memory f r refl is))
     (λ f g r s is was. one_hier_fault text f g (known_fault hier_refusal reading.Memory f r refl is) (known_fault hier_refusal reading.Memory g s refl was))
-
-not_large : (c : Counts) → IsWithin c → IsTooLarge c → ⊥
-not_large c within (inl past) = let le = within.gates in omega arith
-not_large c within (inr (inl past)) = let le = within.weight in omega arith
-not_large c within (inr (inr (inl past))) = let le = within.qubits in omega arith
-not_large c within (inr (inr (inr past))) = let le = within.cbits in omega arith
-
-one_counted : (modules : List Module) → HasOne (IsCounted modules)
-one_counted modules (Ok a) (Ok b) within also = refl
-one_counted modules (Ok a) (Err s) within (large, was) = absurd (not_large (whole_counts modules) within large)
-one_counted modules (Err r) (Ok b) (large, is) within = absurd (not_large (whole_counts modules) within large)
-one_counted modules (Err r) (Err s) (large, is) (also, was) = ap (refused (Unit {0})) (is ∙ sym was)
 
 one_oversize : (limit : ℕ) (modules : List Module) (r s : Refusal) → IsOversized limit modules r → IsOversized limit modules s → r ≡ s
 one_oversize limit modules r s (inl (many, is)) (inl (also, was)) = is ∙ sym was
@@ -155,7 +135,7 @@ one_sized limit modules (Err r) (Ok b) (inr (also, more, is)) (narrow, few, was)
 one_sized limit modules (Err r) (Err s) one other = ap (refused (List Module)) (one_oversize limit modules r s one other)
 
 one_writable : (limit : ℕ) (modules : List Module) → HasOne (IsWritable limit modules)
-one_writable limit modules = then_one (one_counted modules) (λ counted within. one_sized limit modules)
+one_writable limit modules = then_one (one_counted ones modules) (λ counted within. one_sized limit modules)
 
 one_expansion : (limit : ℕ) (text : List ℕ) → HasOne (IsExpansion limit text)
 one_expansion limit text = then_one (one_deck text) (λ modules read. one_writable limit modules)

@@ -16,7 +16,8 @@ use Rattle.sc_probe.specs.Rules.{folded, state_text}
 use Rattle.sc_probe.specs.declared.rule.Rule.{Rule}
 use Rattle.sc_read.specs.declared.flat.FlatText.{FlatText}
 use Rattle.sc_top.specs.Carried.{Took, Prints}
-use Rattle.sc_top.specs.Listed.{ones, list_of, IsListable}
+use Rattle.sc_top.specs.Expansions.{ones}
+use Rattle.sc_top.specs.Listed.{list_of, IsListable}
 use Rattle.sc_top.specs.Lowered.{open_refusal, IsOpened}
 use Rattle.sc_top.specs.Shortened.{shortened_text, kept_text, IsShortened}
 use Rattle.sc_top.specs.Stages.{goes, HasOne, Found}
@@ -25,10 +26,7 @@ use Rattle.sc_top.specs.declared.fault.Fault.{Fault}
 use Rattle.sc_top.specs.declared.fault.Refusal.{Refusal}
 use Rattle.sc_top.proofs.ListLemmas.{one_listed, has_list}
 use Rattle.sc_top.proofs.WatchLemmas.{told_after}
-use Rattle.sc_top.proofs.StageLemmas.{gives_one, known_fault, then_one, is_one, why_map}
-
-abbrev failed : (T E : Type 0) → E → Result T E
-failed T E e = Err e
+use Rattle.sc_top.proofs.StageLemmas.{failed, gives_one, known_fault, then_one, is_one, why_map}
 
 -- ---- an OpenQASM text
 

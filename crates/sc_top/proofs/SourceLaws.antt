@@ -1,16 +1,13 @@
 -- The deck of a source: what a checked source keeps, and what its deck unfolds to.
-use Rattle.std.proofs.Common.{◌≡◌, ℕ, List, [], ◌∷◌, map, Option, Some, None, Result, Ok, refl, sym, ◌∙◌, ap, append-nil}
+use Rattle.std.proofs.Common.{◌≡◌, ℕ, List, [], ◌∷◌, map, Option, Some, None, Ok, refl, sym, ◌∙◌, ap}
 use Rattle.sc_deck.specs.Events.{Event, Enter, Fresh, Apply, Return, after_events, gates_in, fresh_in, flat}
 use Rattle.sc_deck.specs.Modules.{Module}
 use Rattle.sc_deck.specs.Turns.{folded_modules}
 use Rattle.sc_gate.specs.Lines.{flat_text}
 use Rattle.sc_gate.specs.Numbers.{Numbers, with_more, no_wires}
-use Rattle.sc_meaning.proofs.ClassicalLaws.{calls_xor}
-use Rattle.sc_meaning.proofs.Expansion.{all_expand}
 use Rattle.sc_meaning.specs.declared.choice.Choice.{Choice}
 use Rattle.sc_meaning.specs.Meaning.{run, instances, meaning, Expands, expansion_of_last, other_events}
 use Rattle.sc_meaning.specs.Outcomes.{events_of}
-use Rattle.sc_read.proofs.HierTexts.{sound_text_read}
 use Rattle.sc_syntax.specs.Alike.{pure_part}
 use Rattle.sc_syntax.specs.Formed.{IsFormedSource}
 use Rattle.sc_syntax.specs.declared.Part.{Part}
@@ -18,22 +15,17 @@ use Rattle.sc_syntax.specs.declared.Part.TheVariants as part
 use Rattle.sc_types.specs.Accepted.{Taken, IsAcceptedPart, AreAccepted, IsAccepted}
 use Rattle.sc_types.specs.Typing.{TypedSource, IsTyped, AreTyped, IsWellTyped, main_at}
 use Rattle.sc_word.specs.Typed.{TypedWords}
-use Rattle.sc_top.specs.Answers.{watched, done}
-use Rattle.sc_top.specs.Endings.{Output}
 use Rattle.sc_top.specs.Expansions.{whole, FitsFlat, IsWritable}
-use Rattle.sc_top.specs.Headline.{meaning_text, Headline}
+use Rattle.sc_top.specs.Headline.{meaning_text}
 use Rattle.sc_top.specs.Sources.{modules_of, IsCheckedSource, IsSource, IsAcceptedAs}
 use Rattle.sc_top.specs.Stages.{goes}
-use Rattle.sc_top.specs.Watching.{Watcher, asked_of}
-use Rattle.sc_top.specs.declared.fault.Refusal.{Refusal}
-use Rattle.sc_top.proofs.WatchLemmas.{none_asked, none_watch}
 
 -- ---- what rests on how the deck is made of the instances
 
 pub modules_alike : (t u : TypedSource) (choice : Choice) → instances t choice ≡ instances u choice → modules_of t choice ≡ modules_of u choice
 modules_alike t u choice same = ap folded_modules same
 
-modules_unfold : (t : TypedSource) (choice : Choice) → Expands t choice → whole (modules_of t choice) ≡ expansion_of_last (instances t choice)
+pub modules_unfold : (t : TypedSource) (choice : Choice) → Expands t choice → whole (modules_of t choice) ≡ expansion_of_last (instances t choice)
 modules_unfold t choice expands = expands.folded
 
 -- ---- a checked source
@@ -72,40 +64,15 @@ after_others (Apply gate ∷ events) next = after_others events next
 after_others (Return key ∷ events) next = after_others events next
 
 -- the deck unfolds to the gates of the meaning, and has the fresh wires of the run
-unfolded_gates : (t : TypedSource) (choice : Choice) → Expands t choice → gates_in (whole (modules_of t choice)) ≡ meaning t choice
+pub unfolded_gates : (t : TypedSource) (choice : Choice) → Expands t choice → gates_in (whole (modules_of t choice)) ≡ meaning t choice
 unfolded_gates t choice expands = ap gates_in (modules_unfold t choice expands) ∙ expands.gates
 
-unfolded_sums : (t : TypedSource) (choice : Choice) → Expands t choice → fresh_in (whole (modules_of t choice)) ≡ fresh_in (events_of (run t))
+pub unfolded_sums : (t : TypedSource) (choice : Choice) → Expands t choice → fresh_in (whole (modules_of t choice)) ≡ fresh_in (events_of (run t))
 unfolded_sums t choice expands =
     ap fresh_in (modules_unfold t choice expands) ∙ after_others (expansion_of_last (instances t choice)) no_wires ∙ ap (after_events no_wires) expands.others
     ∙ sym (after_others (events_of (run t)) no_wires)
 
-unfolded_text : (t : TypedSource) (choice : Choice) → Expands t choice → flat (whole (modules_of t choice)) ≡ meaning_text t choice
+pub unfolded_text : (t : TypedSource) (choice : Choice) → Expands t choice → flat (whole (modules_of t choice)) ≡ meaning_text t choice
 unfolded_text t choice expands =
     ap (λ (n : Numbers). flat_text n.qubits n.cbits (gates_in (whole (modules_of t choice)))) (unfolded_sums t choice expands)
     ∙ ap (flat_text (fresh_in (events_of (run t))).qubits (fresh_in (events_of (run t))).cbits) (unfolded_gates t choice expands)
-
-unwatched : (all : List Watcher) (modules : List Module) → watched (asked_of none_asked all) modules ≡ done (flat (whole modules))
-unwatched all modules = ap (λ (ws : List Watcher). watched ws modules) (none_watch all) ∙ ap done (append-nil (flat (whole modules)))
-
-abbrev written : Output → Result Output Refusal
-written output = Ok output
-
-pub headline : Headline
-headline = record {
-  texts = λ held all file text t holds within accepted choice.
-      let expands = all_expand t accepted.typed.main accepted.typed.checked accepted.runs choice in
-      let same = unfolded_text t choice expands in
-      let here = goes text _ (holds, within) (accepted_source text t choice accepted) in
-      record {
-        writes_hier = goes (modules_of t choice) _ here refl;
-        gates = unfolded_gates t choice expands;
-        unfolds = same;
-        writes_flat = λ limit fits. goes (modules_of t choice) _ (goes (modules_of t choice) _ here (writable limit (modules_of t choice) fits))
-            (ap written (sym (unwatched all (modules_of t choice) ∙ ap done same)));
-        expands = λ texts name limit held_there short deck sound fits.
-            goes (modules_of t choice) _ (goes _ _ (held_there, short) (goes (modules_of t choice) _ (sound_text_read (modules_of t choice) deck sound) (writable limit (modules_of t choice) fits)))
-            (ap (λ (x : List ℕ). written (done x)) (sym same));
-      };
-  calls = calls_xor;
-}

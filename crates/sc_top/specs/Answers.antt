@@ -1,16 +1,15 @@
 -- What a request is answered.
-use Rattle.std.specs.Prelude.{◌≡◌, ℕ, ◌<◌, ◌≤◌, ◌==◌, ◌&&◌, not, Bool, true, false, List, [], ◌∷◌, ◌++◌, Option, None, Some, Result, Ok, Err, codes, length, is_some, if◌then◌else◌}
-use Rattle.std.specs.Str.{bytes_eq}
+use Rattle.std.specs.Prelude.{◌≡◌, ℕ, ◌<◌, ◌≤◌, Bool, List, [], ◌++◌, Option, None, Some, Result, Ok, Err, length, is_some}
 use Rattle.sc_base.specs.Limits.{most_source_bytes, most_text_bytes}
 use Rattle.sc_count.specs.Limits.{IsWithin}
 use Rattle.sc_check.specs.declared.finding.Finding.{Finding}
 use Rattle.sc_open.specs.OpenReads.{IsInGrammar}
 use Rattle.sc_open.specs.declared.text.OpenText.{OpenText}
 use Rattle.sc_top.specs.Drills.{drill_text, drill_summary}
-use Rattle.sc_top.specs.Listed.{ones, IsListed, IsListable}
+use Rattle.sc_top.specs.Listed.{IsListed, IsListable}
 use Rattle.sc_top.specs.Lowered.{IsOpened, lowered_text, back_text}
 use Rattle.sc_top.specs.Shortened.{IsShortened}
-use Rattle.sc_top.specs.Tallied.{counts_by, IsSummarized, durations}
+use Rattle.sc_top.specs.Tallied.{IsSummarized, durations}
 use Rattle.sc_top.specs.declared.report.Summary.{Summary}
 use Rattle.sc_deck.specs.Events.{flat, gates_in}
 use Rattle.sc_deck.specs.Hierarchical.{hier}
@@ -25,7 +24,7 @@ use Rattle.sc_sched.specs.declared.plan.Plan.{Plan}
 use Rattle.sc_types.specs.Typing.{TypedSource}
 use Rattle.sc_top.specs.Carried.{Carried}
 use Rattle.sc_top.specs.Endings.{Output}
-use Rattle.sc_top.specs.Expansions.{whole, IsWritable, IsExpansion, FitsFlat}
+use Rattle.sc_top.specs.Expansions.{whole, ones, counts_by, IsWritable, IsExpansion, FitsFlat}
 use Rattle.sc_top.specs.Fault.{plain}
 use Rattle.sc_top.specs.Sources.{modules_of, IsSource, IsAcceptedAs}
 use Rattle.sc_top.specs.Reports.{report_text}
@@ -170,7 +169,7 @@ AreInOrder held (Flat file choice limit kinds burst window reach) =
 AreInOrder held (Count file choice times) =
     Holds held most_source_bytes file (λ text. (t : TypedSource) × IsAcceptedAs text t × IsWithin (counts_by (durations times) (modules_of t choice)))
 AreInOrder held (Schedule file choice k d lpfs times) =
-    (1 ≤ k) × Holds held most_source_bytes file (λ text. (t : TypedSource) × IsAcceptedAs text t × IsSchedulable d (durations times) (modules_of t choice))
+    Holds held most_source_bytes file (λ text. (t : TypedSource) × IsAcceptedAs text t × IsSchedulable d (durations times) (modules_of t choice))
 AreInOrder held (Expand file limit) = Holds held most_text_bytes file (λ text. (modules : List Module) × IsHierText text modules × FitsFlat limit modules)
 AreInOrder held (Check list schedule) =
     Holds held most_text_bytes list (λ text. (gates : FlatText) × IsFlatText text gates × Holds held most_text_bytes schedule (λ other. (plan : Plan) × IsTextOf (length gates.gates) other plan))

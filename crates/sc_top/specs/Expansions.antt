@@ -21,14 +21,18 @@ IsDeckOf text = Gives (IsHierText text) (IsHierFault text) hier_refusal
 abbrev pub whole : List Module → List Event
 whole modules = expansion modules (length modules - 1)
 
--- its counts, where each gate takes the duration 1
-abbrev pub whole_counts : List Module → Counts
-whole_counts modules = counts_in (replicate 18 1) (whole modules)
+-- the durations of gates where a request names none: each takes 1
+abbrev pub ones : List ℕ
+ones = replicate 18 1
+
+-- the counts of main with all its calls written out, by these durations
+abbrev pub counts_by : List ℕ → List Module → Counts
+counts_by times modules = counts_in times (whole modules)
 
 -- the counts are within their limit
-abbrev pub IsCounted : List Module → Result (Unit {0}) Refusal → Type 0
-IsCounted modules (Ok counted) = IsWithin (whole_counts modules)
-IsCounted modules (Err refusal) = IsTooLarge (whole_counts modules) × (refusal ≡ plain reason.CountTooLarge)
+abbrev pub IsCounted : List ℕ → List Module → Result (Unit {0}) Refusal → Type 0
+IsCounted times modules (Ok counted) = IsWithin (counts_by times modules)
+IsCounted times modules (Err refusal) = IsTooLarge (counts_by times modules) × (refusal ≡ plain reason.CountTooLarge)
 
 -- a deck whose flat text has too many wires, or else too many gates
 abbrev pub IsOversized : ℕ → List Module → Refusal → Type 0
@@ -43,7 +47,7 @@ IsSized limit modules (Err refusal) = IsOversized limit modules refusal
 
 -- the deck, where its flat text is within every limit
 abbrev pub IsWritable : ℕ → List Module → Result (List Module) Refusal → Type 0
-IsWritable limit modules = Then (IsCounted modules) (λ counted. IsSized limit modules)
+IsWritable limit modules = Then (IsCounted ones modules) (λ counted. IsSized limit modules)
 
 -- the deck of a text whose flat text is to be written, of at most so many gates
 abbrev pub IsExpansion : ℕ → List ℕ → Result (List Module) Refusal → Type 0
@@ -51,6 +55,6 @@ IsExpansion limit text = Then (IsDeckOf text) (IsWritable limit)
 
 -- a deck whose flat text is within every limit
 pub record FitsFlat (limit : ℕ) (modules : List Module) : Type 0 where
-  pub counts : IsWithin (whole_counts modules)
+  pub counts : IsWithin (counts_by ones modules)
   pub wires : ¬ (ManyWires (fresh_in (whole modules)))
   pub gates : length (gates_in (whole modules)) ≤ limit

@@ -1,5 +1,5 @@
 -- The stages from a deck to its list of gates.
-use Rattle.std.specs.Prelude.{◌≡◌, ℕ, ◌<◌, ◌≤◌, List, Option, None, Some, Result, Ok, Err, length, replicate}
+use Rattle.std.specs.Prelude.{◌≡◌, ℕ, ◌<◌, ◌≤◌, List, Option, None, Some, Result, Ok, Err, length}
 use Rattle.sc_base.specs.Limits.{most_gates}
 use Rattle.sc_count.specs.Limits.{IsWithin}
 use Rattle.sc_deck.specs.Events.{fresh_in, gates_in}
@@ -8,16 +8,11 @@ use Rattle.sc_flat.specs.Shown.{ManyWires}
 use Rattle.sc_flat.specs.declared.preparing.PrepFault.{PrepFault}
 use Rattle.sc_flat.specs.declared.preparing.PrepFault.TheVariants as sizing
 use Rattle.sc_read.specs.declared.flat.FlatText.{FlatText}
-use Rattle.sc_top.specs.Expansions.{whole}
+use Rattle.sc_top.specs.Expansions.{whole, counts_by, IsCounted}
 use Rattle.sc_top.specs.Fault.{plain}
 use Rattle.sc_top.specs.Stages.{Then}
-use Rattle.sc_top.specs.Tallied.{counts_by, IsCountedBy}
 use Rattle.sc_top.specs.declared.fault.Refusal.{Refusal}
 use Rattle.sc_top.specs.declared.fault.Reason.TheVariants as reason
-
--- the durations of gates where a request names none
-abbrev pub ones : List ℕ
-ones = replicate 18 1
 
 -- the gates of main with all its calls written out, and the numbers of its qubits and classical bits
 abbrev pub list_of : List Module → FlatText
@@ -35,7 +30,7 @@ HasFewGates modules (Err refusal) = (most_gates < length (gates_in (whole module
 
 -- the list of a deck, by these durations of gates
 abbrev pub IsListed : List ℕ → List Module → Result FlatText Refusal → Type 0
-IsListed times modules = Then (IsCountedBy times modules) (λ counted. Then (HasFewWires modules) (λ few. HasFewGates modules))
+IsListed times modules = Then (IsCounted times modules) (λ counted. Then (HasFewWires modules) (λ few. HasFewGates modules))
 
 -- a deck whose list is within every limit
 pub record IsListable (times : List ℕ) (modules : List Module) : Type 0 where

@@ -1,12 +1,7 @@
 -- The stages from a deck to its schedule.
-use Rattle.std.specs.Prelude.{◌≡◌, ℕ, ◌<◌, ◌≤◌, Bool, true, false, List, Option, None, Some, Result, Ok, Err, length}
-use Rattle.sc_base.specs.Limits.{most_gates}
-use Rattle.sc_count.specs.Limits.{IsWithin}
-use Rattle.sc_deck.specs.Events.{fresh_in, gates_in}
+use Rattle.std.specs.Prelude.{◌≡◌, ℕ, Bool, true, false, List, Option, None, Some, Result, Ok, Err, length}
+use Rattle.sc_deck.specs.Events.{gates_in}
 use Rattle.sc_deck.specs.Modules.{Module}
-use Rattle.sc_flat.specs.Shown.{ManyWires}
-use Rattle.sc_flat.specs.declared.preparing.PrepFault.{PrepFault}
-use Rattle.sc_flat.specs.declared.preparing.PrepFault.TheVariants as sizing
 use Rattle.sc_gate.specs.declared.gate.Gate.{Gate}
 use Rattle.sc_sched.specs.Orders.{by_height, by_through}
 use Rattle.sc_sched.specs.PrioritySchedules.{IsPrioritySchedule, NoneIsWider}
@@ -17,8 +12,9 @@ use Rattle.sc_sched.specs.declared.scheduling.SchedFault.{SchedFault}
 use Rattle.sc_sched.specs.declared.scheduling.SchedFault.TheVariants as planning
 use Rattle.sc_top.specs.Expansions.{whole}
 use Rattle.sc_top.specs.Fault.{plain, at_gate}
+use Rattle.sc_top.specs.Listed.{IsListed, IsListable}
 use Rattle.sc_top.specs.Stages.{Then}
-use Rattle.sc_top.specs.Tallied.{counts_by, IsCountedBy, Yields}
+use Rattle.sc_top.specs.Tallied.{Yields}
 use Rattle.sc_top.specs.declared.fault.Refusal.{Refusal}
 use Rattle.sc_top.specs.declared.fault.Reason.TheVariants as reason
 
@@ -26,20 +22,6 @@ use Rattle.sc_top.specs.declared.fault.Reason.TheVariants as reason
 abbrev pub order_by : Bool → Rank → Rank → Bool
 order_by false = by_height
 order_by true = by_through
-
--- the qubits and the classical bits of main with all its calls written out are not too many
-abbrev pub HasFewWires : List Module → Result (Unit {0}) Refusal → Type 0
-HasFewWires modules (Ok few) = ¬ (ManyWires (fresh_in (whole modules)))
-HasFewWires modules (Err refusal) = ManyWires (fresh_in (whole modules)) × (refusal ≡ plain reason.TooManyWires)
-
--- its gates, where they are not too many to be scheduled
-abbrev pub HasFewGates : List Module → Result (List Gate) Refusal → Type 0
-HasFewGates modules (Ok gates) = (length (gates_in (whole modules)) ≤ most_gates) × (gates ≡ gates_in (whole modules))
-HasFewGates modules (Err refusal) = (most_gates < length (gates_in (whole modules))) × (refusal ≡ plain reason.SchedTooLarge)
-
--- the gates that are to be scheduled
-abbrev pub IsListed : List ℕ → List Module → Result (List Gate) Refusal → Type 0
-IsListed times modules = Then (IsCountedBy times modules) (λ counted. Then (HasFewWires modules) (λ few. HasFewGates modules))
 
 -- no gate has more than d qubits; else the first that has
 abbrev pub HasRoom : ℕ → List Gate → Result (Unit {0}) Refusal → Type 0
@@ -59,20 +41,12 @@ IsPlanned k d comes times gates = Then (HasRoom d gates) (λ room. Yields (IsPla
 
 -- the schedule of a deck on k regions of d qubits
 abbrev pub IsScheduled : ℕ → ℕ → Bool → List ℕ → List Module → Result Plan Refusal → Type 0
-IsScheduled k d lpfs times modules = Then (IsListed times modules) (IsPlanned k d (order_by lpfs) times)
+IsScheduled k d lpfs times modules = Then (IsListed times modules) (λ list. IsPlanned k d (order_by lpfs) times list.gates)
 
--- a deck whose schedule is within every limit, and no gate of which has more than d qubits
+-- a deck whose list is within every limit, and no gate of which has more than d qubits
 pub record IsSchedulable (d : ℕ) (times : List ℕ) (modules : List Module) : Type 0 where
-  pub counts : IsWithin (counts_by times modules)
-  pub wires : ¬ (ManyWires (fresh_in (whole modules)))
-  pub gates : length (gates_in (whole modules)) ≤ most_gates
+  pub list : IsListable times modules
   pub room : NoneIsWider d (gates_in (whole modules))
-
--- a deck whose gates are not listed for this reason
-abbrev pub listing_refusal : PrepFault → Option Refusal
-listing_refusal sizing.TooManyWires = Some (plain reason.TooManyWires)
-listing_refusal sizing.TooManyGates = Some (plain reason.SchedTooLarge)
-listing_refusal sizing.Memory = None
 
 -- gates that have no schedule for this reason
 abbrev pub schedule_refusal : SchedFault → Option Refusal

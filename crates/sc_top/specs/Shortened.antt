@@ -5,7 +5,8 @@ use Rattle.sc_deck.specs.Modules.{Module}
 use Rattle.sc_gate.specs.Lines.{flat_text}
 use Rattle.sc_gate.specs.declared.gate.Gate.{Gate}
 use Rattle.sc_read.specs.declared.flat.FlatText.{FlatText}
-use Rattle.sc_top.specs.Listed.{ones, IsListed}
+use Rattle.sc_top.specs.Expansions.{ones}
+use Rattle.sc_top.specs.Listed.{IsListed}
 use Rattle.sc_top.specs.Stages.{Then, Is}
 use Rattle.sc_top.specs.Watching.{Watcher, comment_line, probe_lines}
 use Rattle.sc_top.specs.declared.fault.Refusal.{Refusal}

@@ -7,7 +7,7 @@ ghost use Rattle.sc_base.specs.Output.{Wrote, WrotePrefix};
 ghost use Rattle.sc_top.specs.Answers.{CarriedOut};
 ghost use Rattle.sc_top.specs.Carried.{Prints};
 ghost use Rattle.sc_top.specs.Drills.{module_line, call_line, drill_text, drill_lines, drill_summary};
-ghost use Rattle.sc_top.specs.Listed.{ones};
+ghost use Rattle.sc_top.specs.Expansions.{ones};
 ghost use Rattle.sc_top.specs.Sources.{IsSource};
 ghost use Rattle.sc_top.specs.Stages.{Found, Then};
 ghost use Rattle.sc_top.specs.Tallied.{IsSummarized};

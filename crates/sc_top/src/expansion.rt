@@ -8,9 +8,9 @@ ghost use Rattle.sc_probe.specs.Rules.{folded};
 ghost use Rattle.sc_top.specs.Expansions.{whole, IsWritable};
 ghost use Rattle.sc_top.specs.Stages.{Found};
 
-use crate::fault::{Fault, count_fault, size_fault};
+use crate::fault::{Fault, size_fault};
+use crate::tallied::tallied;
 use sc_base::{Sink, WriteFault};
-use sc_count::tally_deck;
 use sc_deck::Deck;
 use sc_flat::{Expander, prepare};
 use sc_gate::Times;
@@ -62,10 +62,7 @@ pub(crate) fn sized(alloc: Global, deck: Deck, limit: u64) -> Result<Expansion, 
     requires { IsWhole deck }
     ensures { Found (IsWritable limit deck) result }
 {
-    let tally = match tally_deck(alloc, &deck, &Times::ones()) {
-        Ok(tally) => tally,
-        Err(fault) => return Err(count_fault(fault)),
-    };
+    let tally = tallied(alloc, &deck, &Times::ones())?;
     match prepare(alloc, &deck, &tally, limit) {
         Ok(expander) => Ok(Expansion { deck, expander }),
         Err(fault) => Err(size_fault(fault)),

@@ -1,17 +1,16 @@
 //! From a deck to its schedule.
-ghost use Rattle.std.specs.Prelude.{◌≡◌, ◌≤◌, false, length, IfOk};
+ghost use Rattle.std.specs.Prelude.{◌≡◌, ◌≤◌, false, length};
 ghost use Rattle.sc_base.specs.Limits.{most_gates};
 ghost use Rattle.sc_deck.specs.Decks.{IsWhole};
 ghost use Rattle.sc_sched.specs.Text.{schedule_text};
 ghost use Rattle.sc_top.specs.Carried.{Prints};
-ghost use Rattle.sc_top.specs.Scheduled.{order_by, IsListed, IsPlanned, IsScheduled, listing_refusal, schedule_refusal};
+ghost use Rattle.sc_top.specs.Scheduled.{order_by, IsPlanned, IsScheduled, schedule_refusal};
 ghost use Rattle.sc_top.specs.Stages.{Found, fault_of_refusal};
 
 use crate::fault::{Fault, Reason, at_gate, plainly};
-use crate::tallied::tallied;
-use sc_base::{List, MOST_GATES, Sink, WriteFault};
+use crate::listed::listed;
+use sc_base::{Sink, WriteFault};
 use sc_deck::Deck;
-use sc_flat::{PrepFault, prepare};
 use sc_gate::{Gate, Times};
 use sc_sched::{Lpfs, Plan, Priority, Rcp, SchedFault, schedule, write_schedule};
 use std::alloc::Global;
@@ -31,8 +30,8 @@ pub(crate) fn scheduled(
     requires d { 1 ≤ d }
     ensures { Found (IsScheduled k d lpfs times.now deck.now) result }
 {
-    let gates = listed(alloc, deck, times)?;
-    planned(alloc, gates.as_slice(), k, d, lpfs, times)
+    let list = listed(alloc, deck, times)?;
+    planned(alloc, list.gates.as_slice(), k, d, lpfs, times)
 }
 
 /// Writes the text of the schedule, and ends the sink. Takes no memory.
@@ -47,17 +46,6 @@ pub(crate) fn print_schedule<O: Sink>(plan: &Plan, out: &mut O) -> Result<(), Wr
     }
 }
 
-/// The fault of a request over a deck whose gates are not listed for this reason.
-fn listing_fault(fault: PrepFault) -> Fault
-    ensures { result ≡ fault_of_refusal (listing_refusal fault) }
-{
-    match fault {
-        PrepFault::TooManyWires => plainly(Reason::TooManyWires),
-        PrepFault::TooManyGates => plainly(Reason::SchedTooLarge),
-        PrepFault::Memory => Fault::Memory,
-    }
-}
-
 /// The fault of a request over gates that have no schedule for this reason.
 fn schedule_fault(fault: SchedFault) -> Fault
     ensures { result ≡ fault_of_refusal (schedule_refusal fault) }
@@ -66,23 +54,6 @@ fn schedule_fault(fault: SchedFault) -> Fault
         SchedFault::SchedTooLarge => plainly(Reason::SchedTooLarge),
         SchedFault::Narrow(position) => at_gate(Reason::Narrow, position),
         SchedFault::Memory => Fault::Memory,
-    }
-}
-
-/// The gates of a whole deck with all its calls written out.
-fn listed(alloc: Global, deck: &Deck, times: &Times) -> Result<List<Gate>, Fault>
-    requires { IsWhole deck.now }
-    ensures gates { Found (IsListed times.now deck.now) result }
-    ensures few { IfOk result (λ gates. length gates ≤ most_gates) }
-{
-    let tally = tallied(alloc, deck, times)?;
-    let mut expander = match prepare(alloc, deck, &tally, MOST_GATES as u64) {
-        Ok(expander) => expander,
-        Err(fault) => return Err(listing_fault(fault)),
-    };
-    match expander.list(alloc, deck) {
-        Ok(gates) => Ok(gates),
-        Err(_) => Err(Fault::Memory),
     }
 }
 

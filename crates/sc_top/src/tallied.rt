@@ -4,11 +4,12 @@ ghost use Rattle.sc_count.specs.Limits.{IsWithin};
 ghost use Rattle.sc_count.specs.Tallies.{StandsFor};
 ghost use Rattle.sc_deck.specs.Decks.{IsWhole};
 ghost use Rattle.sc_path.specs.Tables.{StandsFor as AreTablesOf};
+ghost use Rattle.sc_top.specs.Expansions.{counts_by, IsCounted};
 ghost use Rattle.sc_top.specs.Reports.{IsSummaryOf};
-ghost use Rattle.sc_top.specs.Stages.{Found, Why, fault_of_refusal};
-ghost use Rattle.sc_top.specs.Tallied.{durations, counts_by, IsCountedBy, IsSummarized, path_refusal};
+ghost use Rattle.sc_top.specs.Stages.{Found, Why};
+ghost use Rattle.sc_top.specs.Tallied.{durations, IsSummarized};
 
-use crate::fault::{Fault, Reason, count_fault, plainly};
+use crate::fault::{Fault, count_fault};
 use crate::report::Summary;
 use sc_count::{Tally, tally_deck};
 use sc_deck::Deck;
@@ -23,23 +24,13 @@ pub(crate) fn durations(times: Option<Times>) -> Times
     times.unwrap_or(Times::ones())
 }
 
-/// The fault of a request over a deck whose chains have no tables for this reason.
-fn path_fault(fault: PathFault) -> Fault
-    ensures { result ≡ fault_of_refusal (path_refusal fault) }
-{
-    match fault {
-        PathFault::CountTooLarge => plainly(Reason::CountTooLarge),
-        PathFault::Memory => Fault::Memory,
-    }
-}
-
 /// The counts of a whole deck by these durations.
 pub(crate) fn tallied(alloc: Global, deck: &Deck, times: &Times) -> Result<Tally, Fault>
     requires { IsWhole deck.now }
     ensures times { IfOk result (λ tally. tally.times ≡ times.now) }
     ensures stands { IfOk result (λ tally. StandsFor tally deck.now) }
     ensures within { IfOk result (λ tally. IsWithin (counts_by times.now deck.now)) }
-    ensures fault { IfErr result (Why ⊥ ⊥ ⊥ (Unit {0}) (λ r. IsCountedBy times.now deck.now (Err r))) }
+    ensures fault { IfErr result (Why ⊥ ⊥ ⊥ (Unit {0}) (λ r. IsCounted times.now deck.now (Err r))) }
 {
     match tally_deck(alloc, deck, times) {
         Ok(tally) => Ok(tally),
@@ -86,6 +77,6 @@ pub(crate) fn summarized(alloc: Global, deck: &Deck, times: &Times) -> Result<Su
     let tally = tallied(alloc, deck, times)?;
     match paths_of(alloc, deck, times) {
         Ok(paths) => Ok(summary_of(deck, &tally, &paths)),
-        Err(fault) => Err(path_fault(fault)),
+        Err(_) => Err(Fault::Memory),
     }
 }

@@ -10,7 +10,7 @@ ghost use Rattle.sc_words.specs.declared.Request.TheVariants as requests;
 use crate::fault::{Fault, flat_fault, plan_fault};
 use crate::read::read_text;
 use crate::status::Ending;
-use sc_base::{LineBuffer, MOST_TEXT_BYTES, Shelf, Sink, WriteFault, write_all};
+use sc_base::{LineBuffer, MOST_TEXT_BYTES, Shelf, Sink, Text, WriteFault, write_all};
 use sc_check::{Finding, read_schedule, verdict};
 use sc_gate::Gate;
 use sc_read::{FlatText, read_flat};
@@ -47,14 +47,14 @@ fn verdict_of<F: Shelf>(
 {
     let gates = read_text(alloc, list, MOST_TEXT_BYTES as u64, shelf)?;
     let plan = read_text(alloc, schedule, MOST_TEXT_BYTES as u64, shelf)?;
-    judge(alloc, gates.as_bytes(), plan.as_bytes())
+    judge(alloc, gates, plan)
 }
 
-/// The verdict on the schedule of the second text, for the gates of the first.
-fn judge(alloc: Global, list: &[u8], schedule: &[u8]) -> Result<Finding, Fault>
-    requires list { length list.now ≤ most_text_bytes }
-    requires schedule { length schedule.now ≤ most_text_bytes }
-    ensures { Found (IsVerdict list.now schedule.now) result }
+/// The verdict on the schedule of the second text, for the gates of the first. Each text is dropped when it is read.
+fn judge(alloc: Global, list: Text, schedule: Text) -> Result<Finding, Fault>
+    requires list { length list ≤ most_text_bytes }
+    requires schedule { length schedule ≤ most_text_bytes }
+    ensures { Found (IsVerdict list schedule) result }
 {
     let list = read_list(alloc, list)?;
     let plan = read_plan(alloc, schedule, list.gates.as_slice())?;
@@ -64,24 +64,24 @@ fn judge(alloc: Global, list: &[u8], schedule: &[u8]) -> Result<Finding, Fault>
     }
 }
 
-fn read_list(alloc: Global, text: &[u8]) -> Result<FlatText, Fault>
-    requires { length text.now ≤ most_text_bytes }
-    ensures list { Found (IsList text.now) result }
+fn read_list(alloc: Global, text: Text) -> Result<FlatText, Fault>
+    requires { length text ≤ most_text_bytes }
+    ensures list { Found (IsList text) result }
     ensures few { IfOk result (λ list. length list.gates ≤ most_gates) }
 {
-    match read_flat(alloc, text) {
+    match read_flat(alloc, text.as_bytes()) {
         Ok(list) => Ok(list),
         Err(fault) => Err(flat_fault(fault)),
     }
 }
 
 /// The schedule of a text, for these gates.
-fn read_plan(alloc: Global, text: &[u8], gates: &[Gate]) -> Result<Plan, Fault>
-    requires text { length text.now ≤ most_text_bytes }
+fn read_plan(alloc: Global, text: Text, gates: &[Gate]) -> Result<Plan, Fault>
+    requires text { length text ≤ most_text_bytes }
     requires gates { length gates.now ≤ most_gates }
-    ensures { Found (IsPlan (length gates.now) text.now) result }
+    ensures { Found (IsPlan (length gates.now) text) result }
 {
-    match read_schedule(alloc, text, gates.len() as u32) {
+    match read_schedule(alloc, text.as_bytes(), gates.len() as u32) {
         Ok(plan) => Ok(plan),
         Err(fault) => Err(plan_fault(fault)),
     }

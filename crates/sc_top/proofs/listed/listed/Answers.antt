@@ -1,22 +1,15 @@
-use Rattle.std.proofs.Common.{◌≡◌, ◌≤◌, ap, sym, subst, length, Result, Ok, Err}
+use Rattle.std.proofs.Common.{◌≤◌, ap, sym, subst, length, Result}
 use Rattle.std.proofs.lemmas.Result.{err_from_is_err_and}
 use Rattle.sc_base.specs.Limits.{most_gates}
 use Rattle.sc_flat.specs.Shown.{Prepared}
 use Rattle.sc_flat.specs.declared.preparing.PrepFault.{PrepFault}
 use Rattle.sc_read.specs.declared.flat.FlatText.{FlatText}
-use Rattle.sc_top.proofs.ListLemmas.{listing_why}
-use Rattle.sc_top.proofs.ModeLemmas.{why_stops, few_enough}
-use Rattle.sc_top.proofs.StageLemmas.{found_goes}
+use Rattle.sc_top.proofs.ListLemmas.{listing_why, few_enough}
+use Rattle.sc_top.proofs.StageLemmas.{failed, no_fault, why_stops, found_goes}
 use Rattle.sc_top.proofs.listed.listed.Goals as goal
 
 abbrev unprepared : PrepFault → Result Prepared PrepFault
-unprepared fault = Err fault
-
-abbrev prepared : Prepared → Result Prepared PrepFault
-prepared expander = Ok expander
-
-not_both : {e : Prepared} {fault : PrepFault} → prepared e ≡ unprepared fault → ⊥
-not_both {e} {fault} is = cc
+unprepared fault = failed Prepared PrepFault fault
 
 pub returns-in_err-tally-clause-list : goal.returns-in_err-tally-clause-list
 returns-in_err-tally-clause-list c = let p = err_from_is_err_and c.from_residual.result c.from_residual.ensures.1 in rw (p.1, p.2) (why_stops _ _ _ c.in_err-tally.ensures.fault)
@@ -30,16 +23,16 @@ list_from-requires c = record {
   whole = c.requires;
   tally = c.in_ok-tally.ensures.stands;
   fits = c.in-Ok.ensures.fits;
-  wires = λ many. not_both (c.in-Ok.ensures.too_many_wires.1 many);
+  wires = λ many. no_fault (c.in-Ok.ensures.too_many_wires.1 many);
 }
 
 pub returns-in-Ok-list_from-clause-list : goal.returns-in-Ok-list_from-clause-list
 returns-in-Ok-list_from-clause-list c =
     found_goes tt _ c.in_ok-tally.ensures.within
-    (found_goes tt _ (λ many. not_both (c.in-Ok.ensures.too_many_wires.1 many))
-    (record { value = (few_enough c.args.deck.now (λ many. not_both (c.in-Ok.ensures.too_many_wires.1 many)) (λ many. not_both (c.in-Ok.ensures.too_many_gates.1 many)), c.in-Ok-list_from.ensures.list); fault = tt }))
+    (found_goes tt _ (λ many. no_fault (c.in-Ok.ensures.too_many_wires.1 many))
+    (record { value = (few_enough c.args.deck.now (λ many. no_fault (c.in-Ok.ensures.too_many_wires.1 many)) (λ many. no_fault (c.in-Ok.ensures.too_many_gates.1 many)), c.in-Ok-list_from.ensures.list); fault = tt }))
 
 pub returns-in-Ok-list_from-clause-few : goal.returns-in-Ok-list_from-clause-few
 returns-in-Ok-list_from-clause-few c =
     subst (λ (list : FlatText). length list.gates ≤ most_gates) (sym c.in-Ok-list_from.ensures.list)
-    (few_enough c.args.deck.now (λ many. not_both (c.in-Ok.ensures.too_many_wires.1 many)) (λ many. not_both (c.in-Ok.ensures.too_many_gates.1 many)))
+    (few_enough c.args.deck.now (λ many. no_fault (c.in-Ok.ensures.too_many_wires.1 many)) (λ many. no_fault (c.in-Ok.ensures.too_many_gates.1 many)))

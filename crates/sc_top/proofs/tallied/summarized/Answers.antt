@@ -1,10 +1,7 @@
-use Rattle.std.proofs.Common.{ap, ◌∙◌}
+use Rattle.std.proofs.Common.{refl}
 use Rattle.std.proofs.lemmas.Result.{err_from_is_err_and}
-use Rattle.sc_path.specs.declared.fault.PathFault.{PathFault}
-use Rattle.sc_top.specs.Stages.{fault_of_refusal}
-use Rattle.sc_top.specs.Tallied.{path_refusal}
-use Rattle.sc_top.proofs.ModeLemmas.{why_stops, found_memory}
-use Rattle.sc_top.proofs.StageLemmas.{found_goes}
+use Rattle.sc_top.proofs.ModeLemmas.{found_memory}
+use Rattle.sc_top.proofs.StageLemmas.{why_stops, found_goes}
 use Rattle.sc_top.proofs.tallied.summarized.Goals as goal
 
 pub returns-in_err-tally : goal.returns-in_err-tally
@@ -14,4 +11,4 @@ pub returns-in-Ok : goal.returns-in-Ok
 returns-in-Ok c = found_goes tt _ c.in_ok-tally.ensures.within (record { value = rw c.in_ok-tally.ensures.times at c.summary_of.ensures; fault = tt })
 
 pub returns : goal.returns
-returns c = found_memory _ _ (c.path_fault.ensures ∙ ap (λ (f : PathFault). fault_of_refusal (path_refusal f)) c.in-Err.ensures.memory)
+returns c = found_memory _ _ refl

@@ -4,7 +4,7 @@ use Rattle.sc_top.proofs.StageLemmas.{gives_fault}
 use Rattle.sc_top.proofs.verdict.read_list.Goals as goal
 
 pub returns-in-Ok-clause-few : goal.returns-in-Ok-clause-few
-returns-in-Ok-clause-few c = few_gates c.args.text.now c.in-Ok.list c.in-Ok.ensures.ok
+returns-in-Ok-clause-few c = few_gates c.args.text c.in-Ok.list (rw c.as_bytes.ensures at c.in-Ok.ensures.ok)
 
-pub returns-in-Err-clause-list : goal.returns-in-Err-clause-list
-returns-in-Err-clause-list c = rw c.flat_fault.ensures (gives_fault flat_refusal _ c.in-Err.ensures.fault)
+pub returns-clause-list : goal.returns-clause-list
+returns-clause-list c = rw c.flat_fault.ensures (gives_fault flat_refusal _ (rw c.as_bytes.ensures at c.in-Err.ensures.fault))

@@ -20,4 +20,4 @@ pub returns : goal.returns
 returns g c =
     let Next = λ (held : List ℕ → Option (List ℕ)) (gates : List ℕ). Then (IsText held most_text_bytes c.args.schedule.now) (λ plan. IsVerdict gates plan) in
     took_goes Next c.in_ok-gates.gates c.judge.result c.in_ok-gates.ensures.text
-    (took_ends c.in_ok-plan.plan c.judge.result c.in_ok-plan.ensures.text (rw (c.as_bytes.ensures, c.as_bytes-2.ensures) at c.judge.ensures))
+    (took_ends c.in_ok-plan.plan c.judge.result c.in_ok-plan.ensures.text c.judge.ensures)
