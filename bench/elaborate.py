@@ -10,12 +10,12 @@ import tempfile
 
 
 def deep():
-    """256 modules, each of which calls the next from inside 126 nested blocks."""
+    """256 modules, each of which calls the next from inside 126 nested loops: the most stack of all sources that were tried."""
     parts = []
     for i in range(255, -1, -1):
         head = "int main()" if i == 0 else f"module m{i}()"
         call = f"m{i + 1}();" if i < 255 else ";"
-        parts.append(f"{head} {{ {'{' * 126}{call}{'}' * 126} }}\n")
+        parts.append(f"{head} {{ {'for (int i = 0; i < 1; i++) ' * 126}{call} }}\n")
     return "".join(parts)
 
 

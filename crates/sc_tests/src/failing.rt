@@ -1,89 +1,153 @@
-//! Requests over a shelf or a sink that fails.
-use sc_base::{MemShelf, MemSink, Sink};
-use sc_top::run;
+//! Requests over a shelf, an output or a sink of fault lines that fails at any of its calls.
+ghost use Rattle.std.specs.Prelude.{◌≡◌, false, IfOk};
+
+use crate::requests::{REQUESTS, carry, failing_sink, shelf, sink};
+use sc_base::{Failed, MemSink, Sink};
 use std::alloc::Global;
 use std::process::Abort;
-use std::rc::RcStr;
 use std::test::Fail;
 
-const ROOM: usize = 1000;
+/// A sink that takes a byte a call, fails at one call, and counts its calls.
+#[derive(Drop)]
+struct Counting {
+    sink: MemSink,
+    calls: u64,
+}
 
-const BELL: &str = "int main() { qbit q[2]; H(q[0]); CNOT(q[0],q[1]); return 0; }\n";
+fn counted(alloc: Global, call: u64) -> Result<Counting, Fail>
+    ensures { IfOk result (λ out. out.sink.is_ended ≡ false) }
+{
+    Ok(Counting {
+        sink: failing_sink(alloc, call)?,
+        calls: 0,
+    })
+}
 
-const PAIRS: &str = "hier 2\nmodule 0 main()\nqbit 2\nrepeat 2 H q0\nCNOT q0,q1\nend\n";
+impl Sink for Counting {
+    ghost use Rattle.std.specs.Prelude.{true};
 
-const FLAT: &str = "flat 1\nqbits 1\ncbits 0\ngates 1\nH q0\n";
+    ghost tells = { λ _. true };
 
-const SCHEDULE: &str = "sched 1\nregions 1\nwidth 1\ngates 1\nsteps 1\nstep\nregion 0\nend\n";
+    ghost bytes = { λ s. s.sink.bytes };
 
-/// The words as the top call takes them.
-fn words(alloc: Global, texts: &[&str]) -> Result<Vec<RcStr>, Fail> {
-    let mut words = Vec::new(alloc);
-    for text in texts {
-        words.push(RcStr::from_str(alloc, *text)?)?;
+    ghost faults = { λ s. s.sink.faults };
+
+    ghost is_ended = { λ s. s.sink.is_ended };
+
+    fn write(&mut self, piece: &[u8]) -> Result<usize, Failed> {
+        self.calls = self.calls.saturating_add(1);
+        self.sink.write(piece)
     }
-    Ok(words)
+
+    fn finish(&mut self) -> Result<(), Failed> {
+        self.calls = self.calls.saturating_add(1);
+        self.sink.finish()
+    }
+
+    fn ended(&self) -> bool {
+        self.sink.ended()
+    }
 }
 
-/// A shelf with a source, a hierarchical text, a flat text and a schedule.
-fn shelf(alloc: Global) -> Result<MemShelf, Fail> {
-    let mut shelf = MemShelf::new(alloc);
-    shelf.put(b"a", BELL.as_bytes())?;
-    shelf.put(b"h", PAIRS.as_bytes())?;
-    shelf.put(b"f", FLAT.as_bytes())?;
-    shelf.put(b"s", SCHEDULE.as_bytes())?;
-    Ok(shelf)
-}
-
-/// Requests that read one text or two, and write something.
-const REQUESTS: [&[&str]; 3] = [&["flat", "a"], &["expand", "h"], &["check", "f", "s"]];
-
-#[test]
-fn a_failing_sink_keeps_a_prefix(rt: HostRuntime) -> Result<(), Fail> {
-    let alloc = rt.alloc();
-    for request in REQUESTS {
+/// The first call of the shelf at which it may fail and the request is carried out all the same. At each call before it
+/// the answer is that a text can't be read, and nothing is written.
+fn calls_of_shelf(rt: &impl Abort, alloc: Global, request: &[&str]) -> Result<u64, Fail> {
+    for call in 1..100 {
         let mut shelf = shelf(alloc)?;
-        let mut out = MemSink::new(alloc, 1, ROOM)?;
-        out.fail_at(3)?;
-        let mut err = MemSink::new(alloc, ROOM, ROOM)?;
-        let words = words(alloc, request)?;
-        let status = run(
-            alloc,
-            &words,
-            &mut shelf,
-            &mut out,
-            &mut err,
-            Vec::new(alloc),
-        );
-        assert_eq!(rt; status.code(), 7);
-        assert_eq!(rt; out.written().len(), 2);
-        assert!(rt; !out.ended());
-        assert_eq!(rt; err.written(), b"scaff: WriteFault\n".as_slice());
-        assert!(rt; err.ended());
+        shelf.fail_at(call)?;
+        let (mut out, mut err) = (sink(alloc)?, sink(alloc)?);
+        let status = carry(alloc, request, &mut shelf, &mut out, &mut err)?;
+        if status == 0 {
+            return Ok(call);
+        }
+        assert_eq!(rt; status, 3, "{request:?} at {call}");
+        assert_eq!(rt; out.written(), b"".as_slice());
+        assert_eq!(rt; err.written(), b"scaff: ReadFault\n".as_slice());
+    }
+    Ok(0)
+}
+
+/// Each text is begun, read, and read at its end.
+#[test]
+fn a_shelf_fails_at_any_call(rt: HostRuntime) -> Result<(), Fail> {
+    for (request, texts) in REQUESTS {
+        let calls = calls_of_shelf(&rt, rt.alloc(), request)?;
+        assert_eq!(rt; calls, 3 * texts + 1, "{request:?}");
     }
     Ok(())
 }
 
+/// What a request writes where nothing fails.
+fn whole(rt: &impl Abort, alloc: Global, request: &[&str]) -> Result<MemSink, Fail> {
+    let (mut out, mut err) = (sink(alloc)?, sink(alloc)?);
+    let status = carry(alloc, request, &mut shelf(alloc)?, &mut out, &mut err)?;
+    assert_eq!(rt; status, 0, "{request:?}");
+    assert!(rt; out.ended() && !err.ended());
+    assert_eq!(rt; err.written(), b"".as_slice());
+    Ok(out)
+}
+
+/// The request over an output that fails at a call: what stands there is the bytes before, and no call follows. Answers
+/// whether the output was ended before that call.
+fn fails_at(
+    rt: &impl Abort,
+    alloc: Global,
+    request: &[&str],
+    text: &[u8],
+    call: u64,
+) -> Result<bool, Fail> {
+    let (mut out, mut err) = (counted(alloc, call)?, sink(alloc)?);
+    let status = carry(alloc, request, &mut shelf(alloc)?, &mut out, &mut err)?;
+    if out.ended() {
+        assert_eq!(rt; (status, out.sink.written()), (0, text));
+        return Ok(true);
+    }
+    assert_eq!(rt; status, 7, "{request:?} at {call}");
+    assert_eq!(rt; out.calls, call);
+    assert_eq!(rt; out.sink.written().len() as u64 + 1, call);
+    assert!(rt; text.starts_with(out.sink.written()));
+    assert_eq!(rt; err.written(), b"scaff: WriteFault\n".as_slice());
+    assert!(rt; err.ended());
+    Ok(false)
+}
+
 #[test]
-fn a_failing_shelf_writes_nothing(rt: HostRuntime) -> Result<(), Fail> {
+fn an_output_fails_at_any_call(rt: HostRuntime) -> Result<(), Fail> {
     let alloc = rt.alloc();
-    for request in REQUESTS {
-        let mut shelf = shelf(alloc)?;
-        shelf.fail_at(2)?;
-        let mut out = MemSink::new(alloc, ROOM, ROOM)?;
-        let mut err = MemSink::new(alloc, ROOM, ROOM)?;
-        let words = words(alloc, request)?;
-        let status = run(
-            alloc,
-            &words,
-            &mut shelf,
-            &mut out,
-            &mut err,
-            Vec::new(alloc),
-        );
-        assert_eq!(rt; status.code(), 3);
-        assert_eq!(rt; out.written(), b"".as_slice());
-        assert_eq!(rt; err.written(), b"scaff: ReadFault\n".as_slice());
+    for (request, _) in REQUESTS {
+        let whole = whole(&rt, alloc, request)?;
+        let text = whole.written();
+        // a call for each byte, and one at the end
+        for call in 1..text.len() as u64 + 2 {
+            assert!(rt; !fails_at(&rt, alloc, request, text, call)?);
+        }
+        assert!(rt; fails_at(&rt, alloc, request, text, text.len() as u64 + 2)?);
+    }
+    Ok(())
+}
+
+/// Requests that are refused, with the fault line and the status.
+const REFUSED: [(&[&str], &str, u8); 5] = [
+    (&["flat"], "scaff: Usage\n", 2),
+    (&["flat", "none"], "scaff: ReadFault\n", 3),
+    (&["flat", "e"], "scaff: NoMain\n", 1),
+    (&["expand", "p"], "scaff: line 1: BadQasm\n", 1),
+    (&["flat", "--limit", "1", "p"], "scaff: TooManyGates\n", 5),
+];
+
+#[test]
+fn a_sink_of_fault_lines_fails_at_any_call(rt: HostRuntime) -> Result<(), Fail> {
+    let alloc = rt.alloc();
+    for (request, line, want) in REFUSED {
+        for call in 1..line.len() + 3 {
+            let (mut out, mut err) = (sink(alloc)?, counted(alloc, call as u64)?);
+            let status = carry(alloc, request, &mut shelf(alloc)?, &mut out, &mut err)?;
+            assert_eq!(rt; status, want, "{request:?} at {call}");
+            assert!(rt; line.as_bytes().starts_with(err.sink.written()));
+            assert_eq!(rt; err.ended(), err.calls < call as u64);
+            assert_eq!(rt; err.sink.written().len(), line.len().min(call - 1));
+            assert_eq!(rt; out.written(), b"".as_slice());
+        }
     }
     Ok(())
 }
