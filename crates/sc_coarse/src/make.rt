@@ -11,7 +11,7 @@ ghost use Rattle.sc_coarse.specs.CoarseSchedules.{IsCoarseSchedule};
 ghost use Rattle.sc_coarse.specs.CoarseRule.{ones, all_turn_blocks, IsCoarseRule};
 ghost use Rattle.sc_coarse.specs.Expansions.{expanded};
 ghost use Rattle.sc_coarse.specs.Making.{AreMade};
-ghost use Rattle.sc_coarse.specs.Refusals.{deck_too_large, IsFirstWide};
+ghost use Rattle.sc_coarse.specs.Refusals.{deck_too_large, IsFirstWide, NoneIsWide};
 
 use crate::Coarse;
 use crate::building::blocks_of;
@@ -97,6 +97,7 @@ fn schedule_all<P: Priority>(
 ) -> Result<List<Instance>, Memory>
     requires tally { StandsFor tally.now deck.now }
     requires fits { deck_too_large deck.now ≡ false }
+    requires narrow { NoneIsWide d deck.now }
     requires k { 1 ≤ k }
     requires d { 1 ≤ d }
     ensures made { IfOk result (AreMade (P.comes order.now) k d deck.now (length deck.now)) }
