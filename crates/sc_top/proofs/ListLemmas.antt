@@ -1,5 +1,5 @@
 -- The list of a deck: why it is refused, that it is one, and that there is one.
-use Rattle.std.proofs.Common.{◌≡◌, ℕ, ◌<◌, List, length, Ok, Err, refl, sym, ap, ◌∙◌, arith}
+use Rattle.std.proofs.Common.{◌≡◌, ℕ, ◌<◌, ◌≤◌, List, length, Ok, Err, refl, sym, ap, ◌∙◌, arith}
 use Rattle.sc_base.specs.Limits.{most_gates}
 use Rattle.sc_count.specs.Limits.{IsWithin}
 use Rattle.sc_deck.specs.Events.{fresh_in, gates_in}

@@ -27,6 +27,7 @@ use Rattle.sc_top.specs.Stages.{stops, goes, HasOne, Found, fault_of_refusal}
 use Rattle.sc_top.specs.Tallied.{Yields, IsSummarized}
 use Rattle.sc_top.specs.declared.fault.Fault.{Fault}
 use Rattle.sc_top.specs.declared.fault.Fault.TheVariants as fault
+use Rattle.sc_top.specs.declared.fault.Refusal.{Refusal}
 use Rattle.sc_top.specs.declared.fault.Reason.TheVariants as reason
 use Rattle.sc_top.specs.declared.report.Summary.{Summary}
 use Rattle.sc_top.proofs.ExpansionLemmas.{one_counted}
