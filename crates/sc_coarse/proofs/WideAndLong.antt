@@ -193,13 +193,16 @@ first_item_unique d modules i x y h g = elim (cases_order x y) [
   ]
 ]
 
+pub one_wide : (d : ℕ) (modules : List Module) (i x j y : ℕ) → IsFirstWide d modules i x → IsFirstWide d modules j y → (i ≡ j) × (x ≡ y)
+one_wide d modules i x j y h g =
+    let same : i ≡ j = first_instance_unique d modules i x j y h g in
+    (same, first_item_unique d modules j x y (subst (λ (n : ℕ). IsFirstWide d modules n x) same h) g)
+
 pub narrow_iff : (T : Type 0) (d : ℕ) (modules : List Module) (j y : ℕ) → deck_too_large modules ≡ false → IsFirstWide d modules j y → (i x : ℕ) →
     (◌≡◌ {A = Result T CoarseFault} (Err (NarrowItem j y)) (Err (NarrowItem i x))) ↔ ((deck_too_large modules ≡ false) × IsFirstWide d modules i x)
 narrow_iff T d modules j y fits h i x = (
   λ e. (let p : j ≡ i = cc in let q : y ≡ x = cc in (fits, subst (λ (n : ℕ). IsFirstWide d modules n x) p (subst (IsFirstWide d modules j) q h))),
-  λ g. (let p : j ≡ i = first_instance_unique d modules j y i x h g.1 in
-      let q : y ≡ x = first_item_unique d modules i y x (subst (λ (n : ℕ). IsFirstWide d modules n y) p h) g.1 in
-      λ k. Err (NarrowItem (p k) (q k))),
+  λ g. (let (p, q) = one_wide d modules j y i x h g.1 in λ k. Err (NarrowItem (p k) (q k))),
 )
 
 pub not_narrow : {T : Type 0} (d : ℕ) (modules : List Module) (r : Result T CoarseFault) → ((i x : ℕ) → r ≡ Err (NarrowItem i x) → ⊥) → NoneIsWide d modules → (i x : ℕ) →
