@@ -36,7 +36,7 @@ WORDS = ["qbit", "cbit", "int", "double", "if", "else", "while", "for", "return"
          "<<", ">>", "<", "==", "&&", "||", "?", ":", "!", "~", "&", "|", "^", "++", "+=", "0", "1", "2", "ext", "low"]
 STATUS = {
     1: "BadByte OpenComment BadNumber BadDefine Syntax UnknownName Redefined WrongKind WrongCount MeasuredUse BadWidth NoMain Overflow "
-       "DivZero OutOfRange BadSize BadLength Repeated BadQasm BadSchedule BadOpen Unbuilt",
+       "DivZero OutOfRange BadSize BadLength Repeated BadQasm BadSchedule BadOpen",
     2: "Usage Narrow NarrowItem",
     3: "ReadFault",
     4: "Memory",

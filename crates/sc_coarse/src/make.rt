@@ -71,6 +71,7 @@ pub fn coarse_of<P: Priority>(
         IsCoarseSchedule m.items (all_turn_blocks m.items one.blocks)) }
     ensures legal { IfOk result (λ c. IsLegal (gates_of deck.now (length deck.now - 1)) k d (expanded deck.now c (length deck.now - 1))) }
     ensures length { IfOk result (λ c. (i : ℕ) (one : Scheduled) → slice_get c i ≡ Some one → one.length ≡ length (expanded deck.now c i)) }
+    ensures room { OnOk result (NoneIsWide d deck.now) }
     ensures too_large { (result ≡ Err CoarseFault.SchedTooLarge) ↔ (deck_too_large deck.now ≡ true) }
     ensures narrow { (i x : ℕ) → (result ≡ Err (CoarseFault.NarrowItem i x)) ↔ ((deck_too_large deck.now ≡ false) × IsFirstWide d deck.now i x) }
 {

@@ -24,6 +24,10 @@ use Rattle.sc_top.proofs.StageLemmas.{refused, given, then_one, is_one}
 
 -- ---- why they refuse
 
+pub not_so : (b : Bool) → (b ≡ true → ⊥) → b ≡ false
+not_so true no = absurd (no refl)
+not_so false no = refl
+
 pub coarse_why : (comes : Rank → Rank → Bool) (k d : ℕ) (modules : List Module) (f : CoarseFault) → (f ≡ coarsening.SchedTooLarge → deck_too_large modules ≡ true) →
     ((i x : ℕ) → f ≡ coarsening.NarrowItem i x → (deck_too_large modules ≡ false) × IsFirstWide d modules i x) → Found (IsCoarse comes k d modules) (Err (fault_of_refusal (coarse_refusal f)))
 coarse_why comes k d modules coarsening.SchedTooLarge large wide = record { value = tt; fault = stops _ (large refl, refl) }

@@ -4,7 +4,7 @@ ghost use Rattle.sc_top.specs.Answers.{CoarseOf, CarriedOut};
 ghost use Rattle.sc_top.specs.Carried.{Took};
 ghost use Rattle.sc_words.specs.declared.Request.TheVariants as requests;
 
-use crate::coarsened::{Coarsened, coarsened, print_coarse};
+use crate::coarsened::{Coarsened, print_coarse, with_coarse};
 use crate::fault::Fault;
 use crate::source::source_of;
 use crate::status::Ending;
@@ -51,5 +51,5 @@ fn source_coarse<F: Shelf>(
     ensures many { IfOk result (λ c. length c.coarse ≡ length c.deck) }
 {
     let deck = source_of(alloc, file, choice, shelf)?;
-    coarsened(alloc, deck, k, d, lpfs)
+    with_coarse(alloc, deck, k, d, lpfs)
 }

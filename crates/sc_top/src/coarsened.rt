@@ -31,7 +31,7 @@ pub(crate) struct Coarsened {
 /// The refusals, in this order. `CountTooLarge`: the counts of the deck pass 2^128 - 1. `SchedTooLarge`: a body has more
 /// than 4,294,967,295 items, or a stretch of one more than 4,194,304 gates. `NarrowItem`: a gate item has more than `d`
 /// qubits.
-pub(crate) fn coarsened(
+pub(crate) fn with_coarse(
     alloc: Global,
     deck: Deck,
     k: u32,
