@@ -12,6 +12,7 @@ use Rattle.sc_deck.specs.Modules.{Module}
 use Rattle.sc_sched.specs.PrioritySchedules.{IsRankOrder}
 use Rattle.sc_sched.specs.declared.order.Rank.{Rank}
 use Rattle.sc_top.specs.Coarsened.{HasFewItems, HasRoomForItems, IsCoarse, IsCoarsened, IsCoarsenable, coarsened, coarse_refusal}
+use Rattle.sc_top.specs.Expansions.{ones}
 use Rattle.sc_top.specs.Fault.{at_item}
 use Rattle.sc_top.specs.Scheduled.{order_by}
 use Rattle.sc_top.specs.Stages.{stops, goes, HasOne, Found, fault_of_refusal}
@@ -25,8 +26,8 @@ use Rattle.sc_top.proofs.StageLemmas.{refused, given, then_one, is_one}
 -- ---- why they refuse
 
 pub not_so : (b : Bool) → (b ≡ true → ⊥) → b ≡ false
-not_so true no = absurd (no refl)
-not_so false no = refl
+not_so true never = absurd (never refl)
+not_so false never = refl
 
 pub coarse_why : (comes : Rank → Rank → Bool) (k d : ℕ) (modules : List Module) (f : CoarseFault) → (f ≡ coarsening.SchedTooLarge → deck_too_large modules ≡ true) →
     ((i x : ℕ) → f ≡ coarsening.NarrowItem i x → (deck_too_large modules ≡ false) × IsFirstWide d modules i x) → Found (IsCoarse comes k d modules) (Err (fault_of_refusal (coarse_refusal f)))
@@ -59,7 +60,7 @@ one_coarse comes k d modules order =
     then_one (one_few_items modules) (λ few fits. then_one (one_room_for_items d modules) (λ room none. yields_one (AreCoarse comes k d modules) (only_coarse comes k d order modules)))
 
 pub one_coarsened : (k d : ℕ) (lpfs : Bool) (modules : List Module) → HasOne (IsCoarsened k d lpfs modules)
-one_coarsened k d lpfs modules = then_one (one_counted _ modules) (λ counted within. then_one (one_coarse (order_by lpfs) k d modules (lawful lpfs)) (λ instances coarse. is_one _))
+one_coarsened k d lpfs modules = then_one (one_counted ones modules) (λ counted within. then_one (one_coarse (order_by lpfs) k d modules (lawful lpfs)) (λ instances coarse. is_one _))
 
 -- ---- an answer
 

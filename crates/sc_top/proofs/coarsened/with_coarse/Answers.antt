@@ -9,7 +9,7 @@ returns-in_err-tally-clause-coarse c =
 
 pub returns-in_err-coarse-clause-coarse : goal.returns-in_err-coarse-clause-coarse
 returns-in_err-coarse-clause-coarse c =
-    let p = err_from_is_err_and c.from_residual.result c.from_residual.ensures.1 in
+    let p = err_from_is_err_and c.from_residual-in_err-coarse.result c.from_residual-in_err-coarse.ensures.1 in
     rw (p.1, p.2) (found_goes tt _ (rw c.ones.ensures at c.in_ok-tally.ensures.within) (found_stops c.in_err-coarse.ensures.coarse))
 
 pub returns-clause-coarse : goal.returns-clause-coarse
