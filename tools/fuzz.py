@@ -52,7 +52,7 @@ ARGUMENTS = ["hier", "flat", "count", "schedule", "expand", "check", "drill", "c
              "f", "s", "X=1", "T=2,Tdag=3", "T=0", "1", "0", "=", "--help", "-h", "--order=lpfs", "--keep=1", "./a", "/", "a\n", "\u00e9"]
 STATUS = {
     1: "BadByte OpenComment BadNumber BadDefine Syntax UnknownName Redefined WrongKind WrongCount MeasuredUse BadWidth NoMain Overflow "
-       "DivZero OutOfRange BadSize BadLength Repeated BadQasm BadSchedule BadOpen Unbuilt",
+       "DivZero OutOfRange BadSize BadLength Repeated BadQasm BadSchedule BadOpen",
     2: "Usage Narrow NarrowItem",
     3: "ReadFault",
     4: "Memory",

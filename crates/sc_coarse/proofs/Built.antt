@@ -2,21 +2,25 @@
 use Rattle.std.proofs.Common.{◌≡◌, ℕ, suc, ◌+◌, ◌<◌, ◌≤◌, Bool, List, [], ◌∷◌, ◌++◌, length, get_or, drop, map, refl, sym, ap, ◌∙◌, subst, arith, append_assoc, inl, inr}
 use Rattle.std.specs.Prelude.{◌⊎◌, ◌==◌, false, Result, Ok, Err, OnOk}
 use Rattle.std.proofs.lemmas.Bool.{cases_lt, eqb-false}
-use Rattle.std.proofs.lemmas.List.{append-nil, length-append, drop_all}
-use Rattle.std.proofs.Math.Seq.{drop-cons}
+use Rattle.std.proofs.lemmas.List.{append-nil, length-append, length-map, map-append, drop_all}
+use Rattle.std.proofs.Math.Seq.{drop-cons, get_or-append_seam}
+use Rattle.std.proofs.Math.ListN.{get_or-append}
 use Rattle.sc_base.specs.declared.names.Class.{Class}
 use Rattle.sc_gate.specs.declared.gate.Wire.{Wire}
 use Rattle.sc_gate.specs.declared.gate.Gate.{Gate}
 use Rattle.sc_deck.specs.declared.item.Item.{Item}
 use Rattle.sc_deck.specs.declared.item.Item.TheVariants as item
 use Rattle.sc_sched.specs.declared.order.Rank.{Rank}
+use Rattle.sc_sched.specs.Gates.{arity_of, arity_at}
 use Rattle.sc_sched.specs.Legal.{Step}
-use Rattle.sc_sched.specs.PrioritySchedules.{IsPrioritySchedule}
+use Rattle.sc_sched.specs.PrioritySchedules.{IsPrioritySchedule, NoneIsWider}
+use Rattle.sc_sched.specs.Scheduling.{IsFirstWider}
 use Rattle.sc_coarse.specs.declared.block.Block.{Block}
 use Rattle.sc_coarse.specs.declared.block.Block.TheVariants as block
 use Rattle.sc_coarse.specs.declared.building.Building.{Building}
-use Rattle.sc_coarse.specs.Building.{IsSingle, stretch_part, with_open, IsBuilt}
+use Rattle.sc_coarse.specs.Building.{IsSingle, stretch_part, with_open, IsBuilt, CanEnd}
 use Rattle.sc_coarse.specs.CoarseRule.{Part, Stretch, Single, parts_from, parts_of, ones, item_step, AreBlocks}
+use Rattle.sc_coarse.specs.Refusals.{gates_with}
 use Rattle.sc_coarse.proofs.Parts.{with_open-plain, with_open-none, blocks_then, blocks_one}
 
 single_part : (x : ℕ) (i : Item) (rest : List Item) → IsSingle i → parts_from x (i ∷ rest) ≡ Single x ∷ parts_from (x + 1) rest
@@ -31,6 +35,39 @@ pub any_single : (i : Item) → ((x : ℕ) × (ws : List Wire) × (i ≡ item.Ca
 any_single i (inl (x, ws, e)) = subst IsSingle (sym e) tt
 any_single i (inr (inl (g, n, e))) = subst IsSingle (sym e) tt
 any_single i (inr (inr (x, ws, n, e))) = subst IsSingle (sym e) tt
+
+-- and each begins anew
+pub single_anew : (n : ℕ) (i : Item) → IsSingle i → gates_with n i ≡ 0
+single_anew n (item.Fresh class m) lone = absurd lone
+single_anew n (item.Gate gate) lone = absurd lone
+single_anew n (item.Call callee wires) lone = refl
+single_anew n (item.Gates gate turns) lone = refl
+single_anew n (item.Calls callee wires turns) lone = refl
+
+-- no gate, and one more
+pub can_none : (d : ℕ) (gates : List Gate) → gates ≡ [] → CanEnd d gates
+can_none d gates none = subst (CanEnd d) (sym none) (record { few = omega arith; narrow = λ x below. absurd (omega arith) })
+
+pub can_more : (d : ℕ) (gates more : List Gate) (g : Gate) → more ≡ gates ++ g ∷ [] → arity_of g ≤ d → length gates + 1 ≤ 4194304 → CanEnd d gates → CanEnd d more
+can_more d gates more g is slim few h = record {
+  few = (let e = ap length is in let f = length-append gates (g ∷ []) in omega arith);
+  narrow = λ x below. elim (cases_lt x (length gates)) [
+    | inl lt ↦ (let old : arity_at gates x ≤ d = h.narrow x lt in
+        let same : arity_at more x ≡ arity_at gates x =
+        (λ j. arity_at (is j) x) ∙ (ap (λ (ns : List ℕ). get_or ns x 0) (map-append arity_of gates (g ∷ [])) ∙ get_or-append (map arity_of gates) (arity_of g ∷ []) 0 x (let e = length-map gates arity_of in omega arith)) in
+        omega (arith, same, old))
+    | inr ge ↦ (let e = ap length is in let f = length-append gates (g ∷ []) in
+        let last : x ≡ length gates = omega arith in
+        let same : arity_at more x ≡ arity_of g =
+        (λ j. get_or (map arity_of (is j)) (last j) 0) ∙ (ap (λ (ns : List ℕ). get_or ns (length gates) 0) (map-append arity_of gates (g ∷ [])) ∙
+        (ap (λ (n : ℕ). get_or (map arity_of gates ++ arity_of g ∷ []) n 0) (sym (length-map gates arity_of)) ∙ get_or-append_seam (map arity_of gates) (arity_of g) [] 0)) in
+        omega (arith, same, slim))
+  ];
+}
+
+-- none of them is the first that is wider
+pub none_wider : (d : ℕ) (gates : List Gate) (x : ℕ) → NoneIsWider d gates → IsFirstWider d gates x → ⊥
+none_wider d gates x none first = let low = none x first.inside in let high = first.wider in omega arith
 
 pub some_of : (n : ℕ) → (n == 0) ≡ false → 0 < n
 some_of n h = elim (cases_lt 0 n) [ inl l ↦ l | inr g ↦ absurd (eqb-false n 0 h (omega arith)) ]

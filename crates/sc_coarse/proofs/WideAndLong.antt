@@ -66,11 +66,23 @@ pub record Walks (items : List Item) (x n : ℕ) : Type 0 where
 pub walk_begins : (items : List Item) → length items ≤ 4294967295 → Walks items 0 0
 walk_begins items small = record { small = small; few = omega arith; still = sym (long_none (parts_of items)) }
 
+-- what is left of a body, by its first item
+pub long_next : (items : List Item) (x n : ℕ) (i : Item) → x < length items → i ≡ get_or items x i → n ≤ 4194304 →
+    long_after n (parts_from x (drop x items)) ≡ long_after (gates_with n i) (parts_from (x + 1) (drop (x + 1) items))
+long_next items x n i below is few =
+    ap (λ (xs : List Item). long_after n (parts_from x xs)) (drop-cons items x i below ∙ (λ j. sym is j ∷ drop (suc x) items))
+    ∙ (long_item n x i (drop (suc x) items) few ∙ ap (λ (m : ℕ). long_after (gates_with n i) (parts_from (x + 1) (drop m items))) (let e : suc x ≡ x + 1 = omega arith in e))
+
+-- so many gates are not too many, where no stretch is
+pub few_after : (n : ℕ) (parts : List Part) → long_after n parts ≡ false → n ≤ 4194304
+few_after n parts fits = elim (cases_lt 4194304 n) [
+  | inl many ↦ absurd (false≢true (sym fits ∙ long_past n parts many))
+  | inr few ↦ few
+]
+
 next_is : (items : List Item) (x n : ℕ) (i : Item) → x < length items → i ≡ get_or items x i → Walks items x n →
     list_any is_long (parts_of items) ≡ long_after (gates_with n i) (parts_from (x + 1) (drop (x + 1) items))
-next_is items x n i below is w =
-    w.still ∙ (ap (λ (xs : List Item). long_after n (parts_from x xs)) (drop-cons items x i below ∙ (λ j. sym is j ∷ drop (suc x) items))
-    ∙ (long_item n x i (drop (suc x) items) w.few ∙ ap (λ (m : ℕ). long_after (gates_with n i) (parts_from (x + 1) (drop m items))) (let e : suc x ≡ x + 1 = omega arith in e)))
+next_is items x n i below is w = w.still ∙ long_next items x n i below is w.few
 
 pub walk_goes_on : (items : List Item) (x n m : ℕ) (i : Item) → x < length items → i ≡ get_or items x i → m ≡ gates_with n i → m ≤ 4194304 → Walks items x n → Walks items (x + 1) m
 walk_goes_on items x n m i below is next few w = record {
@@ -101,6 +113,10 @@ module_found (Some m) items e = (m, refl, cc)
 neither : (a b : Bool) → (a || b) ≡ false → (a ≡ false) × (b ≡ false)
 neither true b h = absurd (false≢true (sym h))
 neither false b h = (refl, h)
+
+-- no stretch of a body that is not too large is too long
+pub none_long : (items : List Item) → body_too_large items ≡ false → long_after 0 (parts_of items) ≡ false
+none_long items fits = long_none (parts_of items) ∙ (neither (nat_lt 4294967295 (length items)) (list_any is_long (parts_of items)) fits).1
 
 -- a body of a deck that is not too large is not
 pub body_fits : (modules : List Module) (i : ℕ) (items : List Item) → option_map items_of (slice_get modules i) ≡ Some items → deck_too_large modules ≡ false → body_too_large items ≡ false
@@ -177,13 +193,16 @@ first_item_unique d modules i x y h g = elim (cases_order x y) [
   ]
 ]
 
+pub one_wide : (d : ℕ) (modules : List Module) (i x j y : ℕ) → IsFirstWide d modules i x → IsFirstWide d modules j y → (i ≡ j) × (x ≡ y)
+one_wide d modules i x j y h g =
+    let same : i ≡ j = first_instance_unique d modules i x j y h g in
+    (same, first_item_unique d modules j x y (subst (λ (n : ℕ). IsFirstWide d modules n x) same h) g)
+
 pub narrow_iff : (T : Type 0) (d : ℕ) (modules : List Module) (j y : ℕ) → deck_too_large modules ≡ false → IsFirstWide d modules j y → (i x : ℕ) →
     (◌≡◌ {A = Result T CoarseFault} (Err (NarrowItem j y)) (Err (NarrowItem i x))) ↔ ((deck_too_large modules ≡ false) × IsFirstWide d modules i x)
 narrow_iff T d modules j y fits h i x = (
   λ e. (let p : j ≡ i = cc in let q : y ≡ x = cc in (fits, subst (λ (n : ℕ). IsFirstWide d modules n x) p (subst (IsFirstWide d modules j) q h))),
-  λ g. (let p : j ≡ i = first_instance_unique d modules j y i x h g.1 in
-      let q : y ≡ x = first_item_unique d modules i y x (subst (λ (n : ℕ). IsFirstWide d modules n y) p h) g.1 in
-      λ k. Err (NarrowItem (p k) (q k))),
+  λ g. (let (p, q) = one_wide d modules j y i x h g.1 in λ k. Err (NarrowItem (p k) (q k))),
 )
 
 pub not_narrow : {T : Type 0} (d : ℕ) (modules : List Module) (r : Result T CoarseFault) → ((i x : ℕ) → r ≡ Err (NarrowItem i x) → ⊥) → NoneIsWide d modules → (i x : ℕ) →

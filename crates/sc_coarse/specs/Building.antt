@@ -1,8 +1,9 @@
 -- The blocks of a body while they are made.
-use Rattle.std.specs.Prelude.{◌≡◌, ℕ, Bool, List, [], ◌∷◌, ◌++◌, length}
+use Rattle.std.specs.Prelude.{◌≡◌, ℕ, ◌≤◌, Bool, List, [], ◌∷◌, ◌++◌, length}
 use Rattle.sc_gate.specs.declared.gate.Gate.{Gate}
 use Rattle.sc_deck.specs.declared.item.Item.{Item}
 use Rattle.sc_deck.specs.declared.item.Item.TheVariants as item
+use Rattle.sc_sched.specs.PrioritySchedules.{NoneIsWider}
 use Rattle.sc_sched.specs.declared.order.Rank.{Rank}
 use Rattle.sc_coarse.specs.declared.building.Building.{Building}
 use Rattle.sc_coarse.specs.CoarseRule.{Part, Stretch, Single, parts_from, AreBlocks}
@@ -32,3 +33,8 @@ pub record IsBuilt (comes : Rank → Rank → Bool) (k d : ℕ) (parts : List Pa
   pub blocks : AreBlocks comes k d done b.blocks
   pub whole : parts ≡ done ++ with_open b.items.items b.gates.items (parts_from x rest)
   pub same : length b.items.items ≡ length b.gates.items
+
+-- gates that have a schedule as they are: they are not too many, and none has more than d qubits
+pub record CanEnd (d : ℕ) (gates : List Gate) : Type 0 where
+  pub few : length gates ≤ 4194304
+  pub narrow : NoneIsWider d gates

@@ -7,3 +7,4 @@ pub mod Refusals
 pub mod Building
 pub mod CoarseText
 pub mod Making
+pub mod CoarseDecks

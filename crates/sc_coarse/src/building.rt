@@ -1,14 +1,15 @@
 //! The blocks of one body.
-ghost use Rattle.std.specs.Prelude.{◌≡◌, ◌≤◌, ◌<◌, ◌+◌, ◌∷◌, ◌++◌, [], List as Values, All, length, map, slice_index, IfOk, OnOk};
+ghost use Rattle.std.specs.Prelude.{◌≡◌, ◌≤◌, ◌<◌, ◌+◌, ◌∷◌, ◌++◌, [], ℕ, false, List as Values, All, length, map, slice_index, IfOk, OnOk};
 ghost use Rattle.sc_deck.specs.declared.item.Item.{Item as ItemValue};
 ghost use Rattle.sc_coarse.specs.CoarseRule.{Part, item_step, IsCoarseRule, AreBlocks};
-ghost use Rattle.sc_coarse.specs.Building.{IsSingle, stretch_part, IsBuilt};
+ghost use Rattle.sc_coarse.specs.Building.{IsSingle, stretch_part, IsBuilt, CanEnd};
+ghost use Rattle.sc_coarse.specs.Refusals.{gates_with, body_too_large, item_width, width_in};
 
 use crate::Block;
 use sc_base::{List, Memory};
 use sc_deck::Item;
 use sc_gate::{Gate, Times};
-use sc_sched::{Priority, Region, Step, schedule};
+use sc_sched::{Priority, Region, SchedFault, Step, schedule};
 use std::alloc::Global;
 
 /// The blocks so far, and the stretch that is begun with: the positions of its items, and their gates.
@@ -81,6 +82,7 @@ impl Building {
         requires k { 1 ≤ k }
         requires d { 1 ≤ d }
         requires same { length self.old.items.items ≡ length self.old.gates.items }
+        requires can { CanEnd d self.old.gates.items }
         ensures items { OnOk result (self.new.items.items ≡ []) }
         ensures gates { OnOk result (self.new.gates.items ≡ []) }
         ensures blocks { OnOk result ((done : Values Part) → AreBlocks (P.comes order.now) k d done self.old.blocks →
@@ -90,9 +92,11 @@ impl Building {
             return Ok(());
         }
         let gates = self.gates.as_slice();
-        // the number and the width of the gates were tested before, so that only memory can be short
-        let Ok(plan) = schedule(alloc, gates, k, d, order, &Times::ones()) else {
-            return Err(Memory);
+        let plan = match schedule(alloc, gates, k, d, order, &Times::ones()) {
+            Ok(plan) => plan,
+            Err(SchedFault::Memory) => return Err(Memory),
+            Err(SchedFault::SchedTooLarge) => unreachable!(),
+            Err(SchedFault::Narrow(_)) => unreachable!(),
         };
         self.push_steps(alloc, plan.steps.as_slice())?;
         self.items.clear();
@@ -112,6 +116,8 @@ impl Building {
         requires k { 1 ≤ k }
         requires d { 1 ≤ d }
         requires same { length self.old.items.items ≡ length self.old.gates.items }
+        requires can { CanEnd d self.old.gates.items }
+        ensures gates { OnOk result (self.new.gates.items ≡ []) }
         ensures built { OnOk result ((parts : Values Part) (item : ItemValue) (rest : Values ItemValue) → IsSingle item → IsBuilt (P.comes order.now) k d parts at (item ∷ rest) self.old →
             IsBuilt (P.comes order.now) k d parts (at + 1) rest self.new) }
     {
@@ -133,6 +139,11 @@ impl Building {
         requires k { 1 ≤ k }
         requires d { 1 ≤ d }
         requires same { length self.old.items.items ≡ length self.old.gates.items }
+        requires can { CanEnd d self.old.gates.items }
+        requires few { gates_with (length self.old.gates.items) item.now ≤ 4194304 }
+        requires narrow { item_width item.now ≤ d }
+        ensures can { OnOk result (CanEnd d self.new.gates.items) }
+        ensures many { OnOk result (length self.new.gates.items ≡ gates_with (length self.old.gates.items) item.now) }
         ensures built { OnOk result ((parts : Values Part) (rest : Values ItemValue) → IsBuilt (P.comes order.now) k d parts at (item.now ∷ rest) self.old →
             IsBuilt (P.comes order.now) k d parts (at + 1) rest self.new) }
     {
@@ -160,7 +171,8 @@ pub(crate) fn blocks_of<P: Priority>(
 ) -> Result<List<Block>, Memory>
     requires k { 1 ≤ k }
     requires d { 1 ≤ d }
-    requires few { length items.now ≤ 4294967295 }
+    requires fits { body_too_large items.now ≡ false }
+    requires narrow { (y : ℕ) → width_in items.now y ≤ d }
     ensures { IfOk result (IsCoarseRule (P.comes order.now) k d items.now) }
 {
     let mut building = Building::new(alloc);

@@ -11,7 +11,7 @@ ghost use Rattle.sc_coarse.specs.CoarseSchedules.{IsCoarseSchedule};
 ghost use Rattle.sc_coarse.specs.CoarseRule.{ones, all_turn_blocks, IsCoarseRule};
 ghost use Rattle.sc_coarse.specs.Expansions.{expanded};
 ghost use Rattle.sc_coarse.specs.Making.{AreMade};
-ghost use Rattle.sc_coarse.specs.Refusals.{deck_too_large, IsFirstWide};
+ghost use Rattle.sc_coarse.specs.Refusals.{deck_too_large, IsFirstWide, NoneIsWide};
 
 use crate::Coarse;
 use crate::building::blocks_of;
@@ -71,6 +71,7 @@ pub fn coarse_of<P: Priority>(
         IsCoarseSchedule m.items (all_turn_blocks m.items one.blocks)) }
     ensures legal { IfOk result (λ c. IsLegal (gates_of deck.now (length deck.now - 1)) k d (expanded deck.now c (length deck.now - 1))) }
     ensures length { IfOk result (λ c. (i : ℕ) (one : Scheduled) → slice_get c i ≡ Some one → one.length ≡ length (expanded deck.now c i)) }
+    ensures room { OnOk result (NoneIsWide d deck.now) }
     ensures too_large { (result ≡ Err CoarseFault.SchedTooLarge) ↔ (deck_too_large deck.now ≡ true) }
     ensures narrow { (i x : ℕ) → (result ≡ Err (CoarseFault.NarrowItem i x)) ↔ ((deck_too_large deck.now ≡ false) × IsFirstWide d deck.now i x) }
 {
@@ -97,6 +98,7 @@ fn schedule_all<P: Priority>(
 ) -> Result<List<Instance>, Memory>
     requires tally { StandsFor tally.now deck.now }
     requires fits { deck_too_large deck.now ≡ false }
+    requires narrow { NoneIsWide d deck.now }
     requires k { 1 ≤ k }
     requires d { 1 ≤ d }
     ensures made { IfOk result (AreMade (P.comes order.now) k d deck.now (length deck.now)) }

@@ -16,9 +16,11 @@ use Rattle.sc_top.specs.Drills.{drill_text, drill_summary}
 use Rattle.sc_top.specs.Listed.{list_of}
 use Rattle.sc_top.specs.Lowered.{lowered_text, back_text}
 use Rattle.sc_top.specs.Shortened.{shortened_text}
+use Rattle.sc_top.proofs.CoarseLemmas.{has_coarse}
 use Rattle.sc_top.proofs.ListLemmas.{has_list}
 use Rattle.sc_top.proofs.ModeLemmas.{has_summary, has_plan}
 use Rattle.sc_top.proofs.OtherLemmas.{has_shortened}
+use Rattle.sc_top.specs.Coarsened.{coarsened_text}
 use Rattle.sc_top.specs.Endings.{Output}
 use Rattle.sc_top.specs.Expansions.{whole, ones}
 use Rattle.sc_top.specs.Sources.{modules_of}
@@ -26,7 +28,7 @@ use Rattle.sc_top.specs.Stages.{goes}
 use Rattle.sc_top.specs.Verdicts.{VerdictsAreExact, judged}
 use Rattle.sc_top.specs.Watching.{Watcher, asked_of}
 use Rattle.sc_words.specs.declared.Request.{Request}
-use Rattle.sc_words.specs.declared.Request.TheVariants.{Hier, Flat, Count, Schedule, Expand, Check, Drill, ToOpen, FromOpen, Cancel}
+use Rattle.sc_words.specs.declared.Request.TheVariants.{Hier, Flat, Count, Schedule, Expand, Check, Drill, Coarse, ToOpen, FromOpen, Cancel}
 use Rattle.sc_top.specs.Reports.{report_text}
 use Rattle.sc_top.specs.Tallied.{durations}
 use Rattle.sc_top.proofs.SourceLaws.{accepted_source, writable}
@@ -65,6 +67,11 @@ has_output held all (Drill n) range here =
     let modules = modules_of t Replace in
     let (summary, is) = has_summary ones modules within in
     (done (drill_summary n summary), goes summary _ (goes modules _ (accepted_source (drill_text n) t Replace accepted) is) refl)
+has_output held all (Coarse file choice k d lpfs) range here =
+    let (t, accepted, fits) = here.so in
+    let modules = modules_of t choice in
+    let c = has_coarse k d lpfs modules range.0 fits in
+    (done (coarsened_text k d c.0), goes c.0 _ (goes modules _ (goes here.text _ (here.holds, here.within) (accepted_source here.text t choice accepted)) c.1) refl)
 has_output held all (ToOpen file choice) range here =
     let (t, accepted, fits) = here.so in
     let modules = modules_of t choice in (
@@ -80,7 +87,6 @@ has_output held all (Cancel file choice kinds burst window reach) range here =
       done (shortened_text asked (list_of modules)),
       goes (shortened_text asked (list_of modules)) _ (goes modules _ (goes here.text _ (here.holds, here.within) (accepted_source here.text t choice accepted)) (has_shortened asked modules fits)) refl,
     )
-has_output held all job range here = absurd here
 
 of_output : (held : List ℕ → Option (List ℕ)) (all : List Watcher) (found : Option Request) → ((job : Request) → found ≡ Some job → InRange job) → OfRequest (AreInOrder held) found → (output : Output) × OfRequest (λ job. Says held all job (Ok output)) found
 of_output held all None range order = absurd order

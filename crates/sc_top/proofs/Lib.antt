@@ -1,4 +1,5 @@
 mod CarryLemmas
+mod CoarseLemmas
 mod DeckPaths
 mod ExpansionLemmas
 mod FewGates

@@ -39,6 +39,7 @@ use Rattle.sc_words.specs.Words.{request}
 use Rattle.sc_meaning.specs.declared.choice.Choice.TheVariants.{Replace}
 use Rattle.sc_top.specs.Drills.{drill_text}
 use Rattle.sc_top.proofs.ExpansionLemmas.{one_counted}
+use Rattle.sc_top.proofs.CoarseLemmas.{one_coarsened}
 use Rattle.sc_top.proofs.ListLemmas.{one_listed}
 use Rattle.sc_top.proofs.ModeLemmas.{one_summarized, one_scheduled}
 use Rattle.sc_top.proofs.OtherLemmas.{one_opened, one_shortened}
@@ -51,7 +52,7 @@ use Rattle.sc_top.specs.Verdicts.{IsList, IsPlan, IsVerdict}
 use Rattle.sc_top.specs.Watching.{Watcher, asked_of}
 use Rattle.sc_top.specs.declared.fault.Refusal.{Refusal}
 use Rattle.sc_words.specs.declared.Request.{Request}
-use Rattle.sc_words.specs.declared.Request.TheVariants.{Hier, Flat, Count, Schedule, Expand, Check, Drill, ToOpen, FromOpen, Cancel}
+use Rattle.sc_words.specs.declared.Request.TheVariants.{Hier, Flat, Count, Schedule, Expand, Check, Drill, Coarse, ToOpen, FromOpen, Cancel}
 use Rattle.sc_top.proofs.FewGates.{few_gates}
 use Rattle.sc_top.proofs.SourceLaws.{modules_alike}
 use Rattle.sc_top.specs.Tallied.{durations}
@@ -191,10 +192,10 @@ says_one held all (Expand file limit) = then_one (then_one (one_text held most_t
 says_one held all (Check list schedule) =
     then_one (then_one (one_text held most_text_bytes list) (λ gates read. then_one (one_text held most_text_bytes schedule) (λ plan also. one_verdict gates plan))) (λ found judged. is_one _)
 says_one held all (Drill n) = then_one (then_one (one_source Replace (drill_text n)) (λ modules built. one_summarized ones modules)) (λ summary told. is_one _)
+says_one held all (Coarse file choice k d lpfs) = then_one (then_one (one_source_of held file choice) (λ modules built. one_coarsened k d lpfs modules)) (λ c coarse. is_one _)
 says_one held all (ToOpen file choice) = then_one (then_one (one_source_of held file choice) (λ modules built. one_listed ones modules)) (λ list listed. is_one _)
 says_one held all (FromOpen file) = then_one (then_one (one_text held most_text_bytes file) (λ text read. one_opened text)) (λ opened is. is_one _)
 says_one held all (Cancel file choice kinds burst window reach) = then_one (then_one (one_source_of held file choice) (λ modules built. one_shortened (asked_of (record { kinds = kinds; burst = burst; window = window; reach = reach }) all) modules)) (λ text kept. is_one _)
-says_one held all job = is_one _
 
 of_one : (held : List ℕ → Option (List ℕ)) (all : List Watcher) (found : Option Request) (a b : Result Output Refusal) →
     OfRequest (λ job. Says held all job a) found → OfRequest (λ job. Says held all job b) found → a ≡ b

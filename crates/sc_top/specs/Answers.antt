@@ -5,6 +5,8 @@ use Rattle.sc_count.specs.Limits.{IsWithin}
 use Rattle.sc_check.specs.declared.finding.Finding.{Finding}
 use Rattle.sc_open.specs.OpenReads.{IsInGrammar}
 use Rattle.sc_open.specs.declared.text.OpenText.{OpenText}
+use Rattle.sc_top.specs.Coarsened.{IsCoarsened, IsCoarsenable, coarsened_text}
+use Rattle.sc_top.specs.declared.coarsened.Coarsened.{Coarsened}
 use Rattle.sc_top.specs.Drills.{drill_text, drill_summary}
 use Rattle.sc_top.specs.Listed.{IsListed, IsListable}
 use Rattle.sc_top.specs.Lowered.{IsOpened, lowered_text, back_text}
@@ -37,7 +39,7 @@ use Rattle.sc_top.specs.declared.fault.Refusal.{Refusal}
 use Rattle.sc_top.specs.declared.fault.Reason.TheVariants as reason
 use Rattle.sc_words.specs.Words.{request}
 use Rattle.sc_words.specs.declared.Request.{Request}
-use Rattle.sc_words.specs.declared.Request.TheVariants.{Hier, Flat, Count, Schedule, Expand, Check, Drill, ToOpen, FromOpen, Cancel}
+use Rattle.sc_words.specs.declared.Request.TheVariants.{Hier, Flat, Count, Schedule, Expand, Check, Drill, Coarse, ToOpen, FromOpen, Cancel}
 use Rattle.sc_top.specs.declared.status.Ending.{Ending}
 use Rattle.sc_top.specs.declared.status.Ending.TheVariants as ending
 
@@ -63,6 +65,10 @@ SummaryOf held file choice times = Then (SourceOf held file choice) (IsSummarize
 -- the schedule of the source under the name, on k regions of d qubits
 abbrev pub PlanOf : (List ℕ → Option (List ℕ)) → List ℕ → Choice → ℕ → ℕ → Bool → Option (List ℕ) → Result Plan Refusal → Type 0
 PlanOf held file choice k d lpfs times = Then (SourceOf held file choice) (IsScheduled k d lpfs (durations times))
+
+-- the coarse schedules of the source under the name, on k regions of d qubits
+abbrev pub CoarseOf : (List ℕ → Option (List ℕ)) → List ℕ → Choice → ℕ → ℕ → Bool → Result Coarsened Refusal → Type 0
+CoarseOf held file choice k d lpfs = Then (SourceOf held file choice) (IsCoarsened k d lpfs)
 
 -- the list of gates of the source under the name
 abbrev pub ListOf : (List ℕ → Option (List ℕ)) → List ℕ → Choice → Result FlatText Refusal → Type 0
@@ -102,7 +108,7 @@ asked_in (Flat file choice limit kinds burst window reach) all = asked_of (recor
 asked_in _ all = []
 
 -- THE ANSWER of a request over the held texts and the probes that are handed in, where memory is found and no call of shelf or sink
--- fails. Other requests are not built yet.
+-- fails.
 abbrev pub Says : (List ℕ → Option (List ℕ)) → List Watcher → Request → Result Output Refusal → Type 0
 Says held all (Hier file choice) = Then (SourceOf held file choice) (λ modules. Is (Ok (done (hier modules))))
 Says held all (Flat file choice limit kinds burst window reach) =
@@ -112,11 +118,11 @@ Says held all (Schedule file choice k d lpfs times) = Then (PlanOf held file cho
 Says held all (Expand file limit) = Then (ExpansionOf held limit file) (λ modules. Is (Ok (done (flat (whole modules)))))
 Says held all (Check list schedule) = Then (VerdictOf held list schedule) (λ found. Is (Ok (judged found)))
 Says held all (Drill n) = Then (DrilledOf n) (λ summary. Is (Ok (done (drill_summary n summary))))
+Says held all (Coarse file choice k d lpfs) = Then (CoarseOf held file choice k d lpfs) (λ c. Is (Ok (done (coarsened_text k d c))))
 Says held all (ToOpen file choice) = Then (ListOf held file choice) (λ list. Is (Ok (done (lowered_text list))))
 Says held all (FromOpen file) = Then (OpenedOf held file) (λ opened. Is (Ok (done (back_text opened))))
 Says held all (Cancel file choice kinds burst window reach) =
     Then (ShortenedOf held (asked_of (record { kinds = kinds; burst = burst; window = window; reach = reach }) all) file choice) (λ text. Is (Ok (done text)))
-Says held all _ = Is (Err (plain reason.Unbuilt))
 
 -- memory may be wanting after the first byte of output: where a probe that was handed in is asked for
 abbrev pub IsLate : List Watcher → Request → Type 0
@@ -174,10 +180,10 @@ AreInOrder held (Expand file limit) = Holds held most_text_bytes file (λ text. 
 AreInOrder held (Check list schedule) =
     Holds held most_text_bytes list (λ text. (gates : FlatText) × IsFlatText text gates × Holds held most_text_bytes schedule (λ other. (plan : Plan) × IsTextOf (length gates.gates) other plan))
 AreInOrder held (Drill n) = (t : TypedSource) × IsAcceptedAs (drill_text n) t × IsWithin (counts_by ones (modules_of t Replace))
+AreInOrder held (Coarse file choice k d lpfs) = Holds held most_source_bytes file (λ text. (t : TypedSource) × IsAcceptedAs text t × IsCoarsenable d (modules_of t choice))
 AreInOrder held (ToOpen file choice) = Holds held most_source_bytes file (λ text. (t : TypedSource) × IsAcceptedAs text t × IsListable ones (modules_of t choice))
 AreInOrder held (FromOpen file) = Holds held most_text_bytes file (λ text. (opened : OpenText) × IsInGrammar text opened)
 AreInOrder held (Cancel file choice kinds burst window reach) = Holds held most_source_bytes file (λ text. (t : TypedSource) × IsAcceptedAs text t × IsListable ones (modules_of t choice))
-AreInOrder held _ = ⊥
 
 -- words whose texts are in order have an output
 abbrev pub HaveOutputs : Type 0

@@ -47,6 +47,9 @@ at_line name line = record { reason = name; at = at.Line line }
 abbrev pub at_gate : Reason → ℕ → Refusal
 at_gate name position = record { reason = name; at = at.Gate position }
 
+abbrev pub at_item : Reason → (instance position : ℕ) → Refusal
+at_item name instance position = record { reason = name; at = at.Item instance position }
+
 -- a source whose tokens have this fault is refused so
 abbrev pub token_refusal : LexFault → Option Refusal
 token_refusal (lexing.BadByte place) = Some (placed reason.BadByte place)
@@ -134,6 +137,7 @@ weight_of reason.TooManyWires = weight.Limit
 weight_of reason.TooManyGates = weight.Limit
 weight_of reason.SchedTooLarge = weight.Limit
 weight_of reason.Narrow = weight.Usage
+weight_of reason.NarrowItem = weight.Usage
 weight_of _ = weight.Refused
 
 abbrev pub weight_status : Weight → Status
@@ -172,7 +176,6 @@ reason_name reason.OutOfRange = codes "OutOfRange"
 reason_name reason.BadSize = codes "BadSize"
 reason_name reason.BadLength = codes "BadLength"
 reason_name reason.Repeated = codes "Repeated"
-reason_name reason.Unbuilt = codes "Unbuilt"
 reason_name reason.BadQasm = codes "BadQasm"
 reason_name reason.BadSchedule = codes "BadSchedule"
 reason_name reason.TooWide = codes "TooWide"
@@ -185,6 +188,7 @@ reason_name reason.TooManyGates = codes "TooManyGates"
 reason_name reason.SchedTooLarge = codes "SchedTooLarge"
 reason_name reason.BadOpen = codes "BadOpen"
 reason_name reason.Narrow = codes "Narrow"
+reason_name reason.NarrowItem = codes "NarrowItem"
 
 -- the line, a colon, the column, a colon and a space
 abbrev pub place_text : Place → List ℕ
@@ -196,6 +200,7 @@ at_text at.Nowhere = []
 at_text (at.InSource place) = place_text place
 at_text (at.Line line) = codes "line " ++ decimal line ++ codes ": "
 at_text (at.Gate position) = []
+at_text (at.Item instance position) = []
 
 -- where it stands in a list, behind its name
 abbrev pub behind_text : At → List ℕ
@@ -203,6 +208,7 @@ behind_text at.Nowhere = []
 behind_text (at.InSource place) = []
 behind_text (at.Line line) = []
 behind_text (at.Gate position) = codes " " ++ decimal position
+behind_text (at.Item instance position) = codes " " ++ decimal instance ++ codes " " ++ decimal position
 
 abbrev pub fault_text : Fault → List ℕ
 fault_text fault.Usage = codes "Usage"

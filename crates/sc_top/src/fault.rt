@@ -39,6 +39,8 @@ pub enum At {
     Line(u32),
     /// The position of a gate in its list, from 0.
     Gate(u32),
+    /// The number of an instance, and the position of an item in its body, both from 0.
+    Item(u32, u32),
 }
 
 #[derive(Clone, Copy, Debug, PartialEq, Eq)]
@@ -64,7 +66,6 @@ pub enum Reason {
     BadSize,
     BadLength,
     Repeated,
-    Unbuilt,
     BadQasm,
     BadSchedule,
     TooWide,
@@ -76,6 +77,7 @@ pub enum Reason {
     TooManyGates,
     SchedTooLarge,
     Narrow,
+    NarrowItem,
     BadOpen,
 }
 
@@ -121,6 +123,15 @@ pub(crate) fn at_gate(reason: Reason, position: u32) -> Fault
     Fault::Refused(Refusal {
         reason,
         at: At::Gate(position),
+    })
+}
+
+pub(crate) fn at_item(reason: Reason, instance: u32, position: u32) -> Fault
+    ensures { result ≡ Fault.Refused (record { reason = reason; at = At.Item instance position }) }
+{
+    Fault::Refused(Refusal {
+        reason,
+        at: At::Item(instance, position),
     })
 }
 
@@ -256,7 +267,7 @@ impl Reason {
             | Reason::TooManyWires
             | Reason::TooManyGates
             | Reason::SchedTooLarge => Weight::Limit,
-            Reason::Narrow => Weight::Usage,
+            Reason::Narrow | Reason::NarrowItem => Weight::Usage,
             _ => Weight::Refused,
         }
     }
@@ -287,7 +298,6 @@ impl Reason {
             Reason::BadSize => b"BadSize",
             Reason::BadLength => b"BadLength",
             Reason::Repeated => b"Repeated",
-            Reason::Unbuilt => b"Unbuilt",
             Reason::BadQasm => b"BadQasm",
             Reason::BadSchedule => b"BadSchedule",
             Reason::TooWide => b"TooWide",
@@ -300,6 +310,7 @@ impl Reason {
             Reason::SchedTooLarge => b"SchedTooLarge",
             Reason::BadOpen => b"BadOpen",
             Reason::Narrow => b"Narrow",
+            Reason::NarrowItem => b"NarrowItem",
         }
     }
 }
@@ -343,7 +354,7 @@ impl Fault {
     fn push_text(&self, line: &mut LineBuffer)
         requires { length line.old ≤ 7 }
         ensures text { line.new ≡ line.old ++ fault_text self.now }
-        ensures short { length line.new ≤ length line.old + 50 }
+        ensures short { length line.new ≤ length line.old + 61 }
     {
         match self {
             Fault::Usage => line.push(b"Usage"),
@@ -366,7 +377,7 @@ fn push_at(line: &mut LineBuffer, at: At)
     ensures short { length line.new ≤ length line.old + 23 }
 {
     match at {
-        At::Nowhere | At::Gate(_) => {}
+        At::Nowhere | At::Gate(_) | At::Item(..) => {}
         At::InSource(place) => push_place(line, place),
         At::Line(number) => {
             line.push(b"line ");
@@ -380,11 +391,17 @@ fn push_at(line: &mut LineBuffer, at: At)
 fn push_behind(line: &mut LineBuffer, at: At)
     requires { length line.old ≤ 46 }
     ensures text { line.new ≡ line.old ++ behind_text at }
-    ensures short { length line.new ≤ length line.old + 11 }
+    ensures short { length line.new ≤ length line.old + 22 }
 {
     match at {
         At::Nowhere | At::InSource(_) | At::Line(_) => {}
         At::Gate(position) => {
+            line.push(b" ");
+            line.push_number(position);
+        }
+        At::Item(instance, position) => {
+            line.push(b" ");
+            line.push_number(instance);
             line.push(b" ");
             line.push_number(position);
         }

@@ -1,6 +1,8 @@
 //! The command.
 #![tactic(auto)]
 
+mod coarse;
+mod coarsened;
 mod count;
 mod drill;
 mod expand;

@@ -17,10 +17,11 @@ ghost use Rattle.sc_top.specs.Watching.{watchers};
 ghost use Rattle.sc_top.specs.declared.fault.Fault.{Fault as AnyFault};
 ghost use Rattle.sc_top.specs.declared.fault.Refusal.{Refusal};
 
+use crate::coarse::carry_coarse;
 use crate::count::carry_count;
 use crate::drill::carry_drill;
 use crate::expand::carry_expand;
-use crate::fault::{Fault, Reason, plainly};
+use crate::fault::Fault;
 use crate::flat::carry_flat;
 use crate::hier::carry_hier;
 use crate::lowered::carry_open;
@@ -151,7 +152,22 @@ fn carry<F: Shelf, O: Sink>(
             };
             carry_cancel(alloc, file.as_bytes(), *choice, asked, probes, shelf, out)
         }
-        Request::Coarse { .. } => Err(plainly(Reason::Unbuilt)),
+        Request::Coarse {
+            file,
+            choice,
+            k,
+            d,
+            lpfs,
+        } => carry_coarse(
+            alloc,
+            file.as_bytes(),
+            *choice,
+            *k,
+            *d,
+            *lpfs,
+            shelf,
+            out,
+        ),
     }
 }
 

@@ -1,12 +1,15 @@
-use Rattle.std.proofs.Common.{◌≡◌, ℕ, ◌+◌, length, sym, subst, arith}
+use Rattle.std.proofs.Common.{◌≡◌, ◌≤◌, ℕ, ◌+◌, length, sym, subst, arith}
 use Rattle.sc_coarse.specs.Making.{AreMade}
 use Rattle.sc_coarse.proofs.CoarseLengths.{blocks_inside}
 use Rattle.sc_coarse.proofs.MadeSchedules.{made_none, made_more, next_fits, calls_made}
-use Rattle.sc_coarse.proofs.WideAndLong.{few_items, body_fits}
+use Rattle.sc_coarse.proofs.WideAndLong.{body_fits, width_found}
 use Rattle.sc_coarse.proofs.make.schedule_all.Goals as goal
 
-pub blocks_of-requires-clause-few : goal.blocks_of-requires-clause-few
-blocks_of-requires-clause-few g c = few_items c.items_at-items.result.now (body_fits c.args.deck.now c.loop-i.i c.items_at-items.result.now c.items_at-items.ensures c.requires.fits)
+pub blocks_of-requires-clause-fits : goal.blocks_of-requires-clause-fits
+blocks_of-requires-clause-fits g c = body_fits c.args.deck.now c.loop-i.i c.items_at-items.result.now c.items_at-items.ensures c.requires.fits
+
+pub blocks_of-requires-clause-narrow : goal.blocks_of-requires-clause-narrow
+blocks_of-requires-clause-narrow g c = λ y. subst (λ (n : ℕ). n ≤ c.args.d) (width_found c.args.deck.now c.loop-i.i c.items_at-items.result.now y c.items_at-items.ensures) (c.requires.narrow c.loop-i.i y)
 
 pub loop-i-init : goal.loop-i-init
 loop-i-init g c = subst (AreMade (g.P.Priority.comes c.args.order.now) c.args.k c.args.d c.args.deck.now 0) (sym c.new-instances.ensures) (made_none (g.P.Priority.comes c.args.order.now) c.args.k c.args.d c.args.deck.now)

@@ -39,3 +39,11 @@ returns-in-FromOpen g c = rw c.in-FromOpen.is (rw c.as_bytes-in-FromOpen.ensures
 
 pub returns-in-Cancel : goal.returns-in-Cancel
 returns-in-Cancel g c = rw c.in-Cancel.is (rw c.as_bytes-in-Cancel.ensures at c.carry_cancel.ensures)
+
+pub carry_coarse-requires : goal.carry_coarse-requires
+carry_coarse-requires g c =
+    let range = rw c.in-Coarse.is at c.requires.range in
+    record { «open» = c.requires.«open»; k = range.0; d = range.1 }
+
+pub returns-in-Coarse : goal.returns-in-Coarse
+returns-in-Coarse g c = rw c.in-Coarse.is (rw c.as_bytes-in-Coarse.ensures at c.carry_coarse.ensures)

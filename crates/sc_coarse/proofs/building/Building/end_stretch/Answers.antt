@@ -1,9 +1,22 @@
-use Rattle.std.proofs.Common.{ℕ, ◌++◌, ◌∙◌, ap, length, sym, subst}
+use Rattle.std.proofs.Common.{ℕ, List, Result, Err, ◌++◌, ◌∙◌, ap, length, sym, subst}
 use Rattle.std.specs.Prelude.{◌==◌}
+use Rattle.sc_gate.specs.declared.gate.Gate.{Gate}
+use Rattle.sc_sched.specs.Scheduling.{IsFirstWider}
+use Rattle.sc_sched.specs.declared.plan.Plan.{Plan}
+use Rattle.sc_sched.specs.declared.scheduling.SchedFault.{SchedFault}
 use Rattle.sc_coarse.specs.Building.{stretch_part}
 use Rattle.sc_coarse.specs.CoarseRule.{AreBlocks}
-use Rattle.sc_coarse.proofs.Built.{stretch_done, some_of}
+use Rattle.sc_coarse.proofs.Built.{stretch_done, some_of, none_wider}
 use Rattle.sc_coarse.proofs.building.Building.end_stretch.Goals as goal
+
+abbrev unplanned : SchedFault → Result Plan SchedFault
+unplanned fault = Err fault
+
+pub unreachable-requires-in-Err-Narrow : goal.unreachable-requires-in-Err-Narrow
+unreachable-requires-in-Err-Narrow g c =
+    let x : ℕ = c.in-Err-Narrow.field-0-0 in
+    let first = ((c.schedule.ensures.narrow x).0 (c.in-Err-Narrow.is ∙ ap unplanned c.in-Err-Narrow.field-0-is)).1 in
+    none_wider c.args.d c.args.self.now.gates.items x c.requires.can.narrow (subst (λ (gates : List Gate). IsFirstWider c.args.d gates x) c.as_slice-gates.ensures.value first)
 
 pub returns-clause-blocks : goal.returns-clause-blocks
 returns-clause-blocks g c = λ done h.
