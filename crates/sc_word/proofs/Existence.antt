@@ -1,10 +1,9 @@
 -- A classical function in which no check fails has a typed function.
-use Rattle.std.proofs.Common.{◌≡◌, ℕ, ◌^◌, ◌≤◌, true, nat_le, List, [], ◌∷◌, ◌++◌, map, Option, Some, None, refl, sym, ap, ◌∙◌, subst, arith}
+use Rattle.std.proofs.Common.{◌≡◌, ℕ, ◌≤◌, true, nat_le, List, [], ◌∷◌, ◌++◌, map, Option, Some, None, refl, sym, ap, ◌∙◌, subst, arith}
 use Rattle.std.specs.Prelude.{unsigned_abs}
 use Rattle.std.proofs.lemmas.Bool.{and_parts, leb-true}
 use Rattle.sc_base.specs.declared.Place.{Place}
 use Rattle.sc_syntax.specs.declared.Width.{Width}
-use Rattle.sc_syntax.specs.declared.WordOp.{WordOp}
 use Rattle.sc_syntax.specs.declared.WordParam.{WordParam}
 use Rattle.sc_syntax.specs.Alike.{PureWord, PureWordLinks, PureWordExpr, PureBind}
 use Rattle.sc_word.specs.declared.operand.Form.{Form}
@@ -13,9 +12,9 @@ use Rattle.sc_word.specs.declared.tree.WordFault.{WordFault}
 use Rattle.sc_word.specs.Pure.{PureTyped, PureTypedLinks, PureTypedExpr, PureWordFn}
 use Rattle.sc_word.specs.Words.{Words, number_of, width_at, width_named, widths_of, IsWidth, AreWidths}
 use Rattle.sc_word.specs.Forms.{amount, own_width, shared, op_width, form_node, form, row_width}
-use Rattle.sc_word.specs.Checks.{Check, first_fault, is_known, is_new, width_rule, in_bounds, no_literal, literal_fits, meet, op_fits, bare_test, wide_test, shift_fits, ext_checks, low_checks, result_fits, checks_node, checks_expr, checks_params, checks_binds, checks_fn, param_word, bind_word}
+use Rattle.sc_word.specs.Checks.{Check, first_fault, is_known, is_new, width_rule, in_bounds, no_literal, literal_fits, meet, op_fits, bare_test, wide_test, shift_fits, ext_checks, low_checks, result_fits, checks_expr, checks_params, checks_binds, checks_fn, param_word, bind_word}
 use Rattle.sc_word.specs.Typed.{TypesAs, TypesRow, TypesBinds, AreDeclared, TypedWords, TypesPureFn}
-use Rattle.sc_word.specs.Operands.{or_else, fault_node, fault_row, fault_expr}
+use Rattle.sc_word.specs.Operands.{or_else, fault_node, fault_row}
 use Rattle.sc_word.proofs.Operating.{passes, types_width, op_is_width, Suits, suits_own, wide_own, literal, both_by, suits_test, all_shifts, first_alone}
 use Rattle.sc_word.proofs.Chaining.{fits_from}
 use Rattle.sc_word.proofs.Faulting.{first_fault-append, fault_of_node}
