@@ -14,6 +14,7 @@ pub mod ScopeLemmas
 pub mod Standing
 pub mod TableLemmas
 pub mod Telling
+pub mod TypedParts
 pub mod TypingLemmas
 pub mod Walks
 pub mod Ways

@@ -42,6 +42,13 @@ words_fault (c ∷ cs) =
 pub words_fine : (f : WordFn) → words.fault f ≡ None → first_fault (words_checks (pure_word_fn f)) ≡ None
 words_fine f e = words_fault (words.checks f) ∙ ap (option_map of_word) e
 
+unmapped : (o : Option WordFault) → option_map of_word o ≡ None → o ≡ None
+unmapped None e = refl
+unmapped (Some r) e = cc
+
+pub words_sound : (f : WordFn) → first_fault (words_checks (pure_word_fn f)) ≡ None → words.fault f ≡ None
+words_sound f e = unmapped (words.fault f) (sym (words_fault (words.checks f)) ∙ e)
+
 pub words_fail : (f : WordFn) (r : WordFault) → words.fault f ≡ Some r → first_fault (words_checks (pure_word_fn f)) ≡ Some (of_word r)
 words_fail f r e = words_fault (words.checks f) ∙ ap (option_map of_word) e
 

@@ -75,6 +75,10 @@ pub record IsChecked (t : TypedSource) (main : ℕ) : Type 0 where
   pub words : AreTyped t.source.parts t.words
   pub main_is : main_at t.source ≡ Some main
 
+-- every formed and well typed source has its typed functions and its `main`
+abbrev pub HaveTypedFunctions : Type 0
+HaveTypedFunctions = (source : Source) → IsFormedSource source → IsWellTyped source → (t : TypedSource) × (main : ℕ) × (t.source ≡ source) × IsChecked t main
+
 -- the classical function at a position
 abbrev pub function_at : Source → ℕ → Option WordFn
 function_at source i = function_of (slice_get source.parts i)

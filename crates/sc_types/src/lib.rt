@@ -7,6 +7,7 @@ mod declare;
 mod definitions;
 mod fault;
 mod first_parts;
+mod laws;
 mod names;
 mod numbers;
 mod params;
@@ -21,5 +22,6 @@ mod wires;
 
 pub use checked::Checked;
 pub use fault::TypeFault;
+pub use laws::well_typed_sources_have_typed_functions;
 pub use source::check;
 pub use want::Want;

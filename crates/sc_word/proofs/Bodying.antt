@@ -23,7 +23,7 @@ use Rattle.sc_word.specs.Operands.{or_else, fault_expr, fault_binds, form_of, wi
 use Rattle.sc_word.proofs.Operating.{neither, passes, takes, takes_own, wide_own, Suits, types_width}
 use Rattle.sc_word.proofs.Fitting.{areWidths-push}
 
-suits_result : (p : Place) (f : Form) (w : ℕ) → IsWidth w → first_fault (result_fits p f w ∷ []) ≡ None → Suits f w
+pub suits_result : (p : Place) (f : Form) (w : ℕ) → IsWidth w → first_fault (result_fits p f w ∷ []) ≡ None → Suits f w
 suits_result p (Bare v) w a h = record { width = a; fits = ltb-true v (2 ^ w) (passes (result_fits p (Bare v) w) [] h).0 }
 suits_result p (Wide x) w a h = eqb-true x w (passes (result_fits p (Wide x) w) [] h).0
 
@@ -49,7 +49,7 @@ returned_word ws e o w a h none =
 skip : (c : Check) (cs : List Check) → c.passes ≡ true → first_fault (c ∷ cs) ≡ first_fault cs
 skip c cs e = ap (λ (b : Bool). if b then first_fault cs else Some c.fault) e
 
-is_none_none : (o : Option ℕ) → is_none o ≡ true → o ≡ None
+pub is_none_none : (o : Option ℕ) → is_none o ≡ true → o ≡ None
 is_none_none None h = refl
 is_none_none (Some i) h = cc
 
@@ -70,11 +70,11 @@ params_more done rest all p ws more widths longer w h fresh bounds e a m l =
           ∙ h.fault;
     }
 
-none_left : (a b : Option WordFault) → or_else a b ≡ None → a ≡ None
+pub none_left : (a b : Option WordFault) → or_else a b ≡ None → a ≡ None
 none_left None b h = refl
 none_left (Some f) b h = cc
 
-none_right : (a b : Option WordFault) → or_else a b ≡ None → b ≡ None
+pub none_right : (a b : Option WordFault) → or_else a b ≡ None → b ≡ None
 none_right None b h = h
 none_right (Some f) b h = cc
 

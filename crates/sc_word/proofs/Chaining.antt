@@ -67,7 +67,7 @@ chain_is_width ws n done (Start (operand.Word t)) w a h e = (let q : t.width ≡
 chain_is_width ws n done (Joined f links x) w a h e =
     (let q : x ≡ w = cc in subst IsWidth q (links_is_width ws (form_node ws n) f.width x done links.items (types_width ws n f.width (pure_typed f.node) a h.0) h.1))
 
-fits_from : (at : Place) (o : WordOp) (w : ℕ) → IsWidth w → (op_fits at o w).passes ≡ true → OpFits o w
+pub fits_from : (at : Place) (o : WordOp) (w : ℕ) → IsWidth w → (op_fits at o w).passes ≡ true → OpFits o w
 fits_from at op.Mul w a h = (a.above, leb-true w 32 h)
 fits_from at op.Or w a h = a.above
 fits_from at op.Xor w a h = a.above

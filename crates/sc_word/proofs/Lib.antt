@@ -1,6 +1,7 @@
 pub mod Bodying
 pub mod Bounding
 pub mod Chaining
+pub mod Existence
 pub mod Faulting
 pub mod Fitting
 pub mod Naming

@@ -134,7 +134,7 @@ pub takes_own : (ws : Words) (at p : Place) (n : PureWord) (o : Operand) → Wal
     → TakesWidth ws n (own_width (form_of o)) (word_of o)
 takes_own ws at p n o h none = takes ws at n o (own_width (form_of o)) h (suits_own p (form_of o) none)
 
-literal : (v w : ℕ) → IsWidth w → nat_lt v (2 ^ w) ≡ true → IsLiteral v w
+pub literal : (v w : ℕ) → IsWidth w → nat_lt v (2 ^ w) ≡ true → IsLiteral v w
 literal v w a h = record { width = a; fits = ltb-true v (2 ^ w) h }
 
 pub wide_is_width : (ws : Words) (at : Place) (n : PureWord) (o : Operand) (w : ℕ) → AreWidths (widths_of ws) → WalkedWord ws at n o → form_of o ≡ Wide w → IsWidth w
@@ -162,7 +162,7 @@ both ws at p q at1 at2 n1 n2 o1 o2 a h1 h2 m =
 -- ---- `low`
 
 -- the first of some checks alone
-first_alone : (c : Check) (cs : List Check) → first_fault (c ∷ cs) ≡ None → first_fault (c ∷ []) ≡ None
+pub first_alone : (c : Check) (cs : List Check) → first_fault (c ∷ cs) ≡ None → first_fault (c ∷ []) ≡ None
 first_alone c cs h = ap (λ b. if b then None else Some c.fault) (passes c cs h).0
 
 -- a node whose operand is no bare literal: the operand as a word of its own width
@@ -213,7 +213,7 @@ walked_not ws at inner o r h none i =
       tree = (t.tree, t.width, t.form);
     })
 
-all_shifts : (links : List ShiftLink) → first_fault (map shift_fits links) ≡ None → All ShiftFits links
+pub all_shifts : (links : List ShiftLink) → first_fault (map shift_fits links) ≡ None → All ShiftFits links
 all_shifts [] h = All-nil ShiftFits
 all_shifts (l ∷ ls) h =
     let p = passes (shift_fits l) (map shift_fits ls) h in
@@ -231,7 +231,7 @@ walked_shift ws at inner links o r h none i =
 
 -- ---- `?:`
 
-suits_test : (p : Place) (f : Form) → (bare_test p f).passes ≡ true → (wide_test p f).passes ≡ true → Suits f 1
+pub suits_test : (p : Place) (f : Form) → (bare_test p f).passes ≡ true → (wide_test p f).passes ≡ true → Suits f 1
 suits_test p (Bare v) h k = literal v 1 one_is_width h
 suits_test p (Wide w) h k = eqb-true w 1 k
 

@@ -1,6 +1,6 @@
 //! What holds of every typed function.
 ghost use Rattle.sc_word.specs.Fits.{WidthsFit};
-ghost use Rattle.sc_word.specs.Once.{HasOneTyping};
+ghost use Rattle.sc_word.specs.Once.{HasOneTyping, HaveTypings};
 ghost use Rattle.sc_word.specs.Value.{ValuesFit};
 
 /// The value of a well typed function, for values of its parameters that fit their widths, is a number of its width.
@@ -16,4 +16,9 @@ pub fn widths_fit()
 /// Functions that differ only in memory addresses have one fault, or none, and at most one typed function.
 pub fn one_typing()
     ensures { HasOneTyping }
+{}
+
+/// A classical function in which no check fails has a typed function.
+pub fn well_typed_functions_have_typings()
+    ensures { HaveTypings }
 {}

@@ -14,7 +14,7 @@ mod walk;
 mod words;
 
 pub use function::typed;
-pub use laws::{one_typing, values_fit, widths_fit};
+pub use laws::{one_typing, values_fit, well_typed_functions_have_typings, widths_fit};
 pub use operand::Form;
 pub use tree::{TypedExpr, TypedLink, TypedNode, WordFault};
 pub use typed_fn::TypedFn;
