@@ -35,11 +35,10 @@ use Rattle.sc_sched.specs.Legal.{Step, IsLegal}
 use Rattle.sc_sched.specs.Sequences.{step_behind}
 use Rattle.sc_sched.proofs.Renamed.{legal_renamed}
 use Rattle.sc_coarse.specs.declared.coarse.Instance.{Instance}
-use Rattle.sc_coarse.specs.CoarseRule.{all_turn_blocks}
+use Rattle.sc_coarse.specs.CoarseRule.{all_turn_blocks, IsCoarseRule}
 use Rattle.sc_coarse.specs.CoarseSchedules.{TurnBlock, OneStep, OneCall}
 use Rattle.sc_coarse.specs.Expansions.{flat_place, steps_called, callee_at, block_steps, all_steps, steps_at, flat_size, expansions_from, coarse_expansions, schedules_of, expanded}
-use Rattle.sc_coarse.specs.Lengths.{length_at, CallsBelow}
-use Rattle.sc_coarse.specs.Making.{IsInstance, AreMade}
+use Rattle.sc_coarse.specs.Lengths.{blocks_length, length_at, CallsBelow}
 use Rattle.sc_coarse.specs.Refusals.{width_in, NoneIsWide}
 use Rattle.sc_coarse.proofs.CoarseLengths.{got_all, blocks_length-same, steps_many}
 use Rattle.sc_coarse.proofs.FlatParts.{IsFlat, body_legal}
@@ -137,7 +136,8 @@ last_there modules whole = by (slice_get modules (length modules - 1)) refl whol
     by None e h = absurd (none-some main_key h)
     by (Some m) e h = slice_get_within modules (length modules - 1) m e
 
-module _ (comes : Rank → Rank → Bool) (k d : ℕ) (modules : List Module) (deck : IsDeck modules) (c : List Instance) (made : AreMade comes k d modules (length modules) c) where
+module _ (comes : Rank → Rank → Bool) (k d : ℕ) (modules : List Module) (deck : IsDeck modules) (c : List Instance) (many : length c ≡ length modules)
+  (rule : (i : ℕ) (m : Module) (one : Instance) → slice_get modules i ≡ Some m → slice_get c i ≡ Some one → IsCoarseRule comes k d m.items one.blocks) where
   called : ℕ → List Step
   called = expanded modules c
 
@@ -150,31 +150,31 @@ module _ (comes : Rank → Rank → Bool) (k d : ℕ) (modules : List Module) (d
       i m (all_turn_blocks m.items one.blocks) at (schedule_at modules c i m one at got)
 
   instance_there : (i : ℕ) → i < length modules → (one : Instance) × (slice_get c i ≡ Some one)
-  instance_there i l = slice_get_there c i (let m = made.many in omega (arith, m))
+  instance_there i l = slice_get_there c i (omega (arith, many))
 
-  -- the lengths are the numbers of steps
-  many_each : (i : ℕ) → i < length modules → ((j : ℕ) → j < i → length_at c j ≡ length (called j)) → length_at c i ≡ length (called i)
-  many_each i below earlier =
-      let (m, at) = slice_get_there modules i below in
-      let (one, got) = instance_there i below in
-      let h : IsInstance comes k d m (length_at (take i c)) one = made.each i m one at got in
-      ap (λ (o : Option Instance). option_map_or (λ (x : Instance). x.length) o 0) got
-      ∙ (h.length ∙ (blocks_length-same (length_at (take i c)) (λ j. length (called j)) i (λ j l. length_taken c i j l ∙ earlier j l) m.items (body_calls modules deck i m at) one.blocks
-      ∙ sym (ap length (expanded_is i m one at got) ∙ steps_many (flat_size modules) called m.items one.blocks)))
+  module _ (measured : (i : ℕ) (m : Module) (one : Instance) → slice_get modules i ≡ Some m → slice_get c i ≡ Some one → one.length ≡ blocks_length (length_at (take i c)) m.items one.blocks) where
+    -- the lengths are the numbers of steps
+    many_each : (i : ℕ) → i < length modules → ((j : ℕ) → j < i → length_at c j ≡ length (called j)) → length_at c i ≡ length (called i)
+    many_each i below earlier =
+        let (m, at) = slice_get_there modules i below in
+        let (one, got) = instance_there i below in
+        ap (λ (o : Option Instance). option_map_or (λ (x : Instance). x.length) o 0) got
+        ∙ (measured i m one at got ∙ (blocks_length-same (length_at (take i c)) (λ j. length (called j)) i (λ j l. length_taken c i j l ∙ earlier j l) m.items (body_calls modules deck i m at) one.blocks
+        ∙ sym (ap length (expanded_is i m one at got) ∙ steps_many (flat_size modules) called m.items one.blocks)))
 
-  many_below : (n : ℕ) → n ≤ length modules → (j : ℕ) → j < n → length_at c j ≡ length (called j)
-  many_below zero few j l = absurd (omega arith)
-  many_below (suc n) few j l = elim (cases_lt j n) [
-    | inl lt ↦ many_below n (omega arith) j lt
-    | inr ge ↦ (let same : n ≡ j = omega arith in subst (λ (x : ℕ). length_at c x ≡ length (called x)) same (many_each n (omega arith) (many_below n (omega arith))))
-  ]
+    many_below : (n : ℕ) → n ≤ length modules → (j : ℕ) → j < n → length_at c j ≡ length (called j)
+    many_below zero few j l = absurd (omega arith)
+    many_below (suc n) few j l = elim (cases_lt j n) [
+      | inl lt ↦ many_below n (omega arith) j lt
+      | inr ge ↦ (let same : n ≡ j = omega arith in subst (λ (x : ℕ). length_at c x ≡ length (called x)) same (many_each n (omega arith) (many_below n (omega arith))))
+    ]
 
-  -- THE LENGTH of an instance is the number of steps of its expansion
-  pub length_is : (i : ℕ) (one : Instance) → slice_get c i ≡ Some one → one.length ≡ length (expanded modules c i)
-  unfolding called
-  length_is i one got =
-      sym (ap (λ (o : Option Instance). option_map_or (λ (x : Instance). x.length) o 0) got)
-      ∙ many_below (length modules) (omega arith) i (let l = slice_get_within c i one got in let m = made.many in omega (arith, l, m))
+    -- THE LENGTH of an instance is the number of steps of its expansion
+    pub length_is : (i : ℕ) (one : Instance) → slice_get c i ≡ Some one → one.length ≡ length (expanded modules c i)
+    unfolding called
+    length_is i one got =
+        sym (ap (λ (o : Option Instance). option_map_or (λ (x : Instance). x.length) o 0) got)
+        ∙ many_below (length modules) (omega arith) i (let l = slice_get_within c i one got in omega (arith, l, many))
 
   module _ (some : 1 ≤ k) (narrow : NoneIsWide d modules) where
     -- the callee of a call, on its wires
@@ -211,7 +211,6 @@ module _ (comes : Rank → Rank → Bool) (k d : ℕ) (modules : List Module) (d
     legal_each i below earlier =
         let (m, at) = slice_get_there modules i below in
         let (one, got) = instance_there i below in
-        let h : IsInstance comes k d m (length_at (take i c)) one = made.each i m one at got in
         let wires : List Wire = numbered (param_classes m.key) no_wires in
         let sized = Sized-params wires m.key (numbered-classes (param_classes m.key) no_wires) in
         let fine : Fine wires (params_of m.key) (params_of m.key) = record {
@@ -223,7 +222,7 @@ module _ (comes : Rank → Rank → Bool) (k d : ℕ) (modules : List Module) (d
         let flat : IsLegal (gates_in (unfold_items (unfoldings modules) m.items wires (params_of m.key))) k d (all_steps (flat_size modules) called m.items (all_turn_blocks m.items one.blocks)) =
         body_legal (unfoldings modules) (take i modules) (flat_size modules) called k d some
         (λ j n e. (let p = front_got modules i j n e in callee_flat i earlier j n p.0 p.1))
-        comes m.items wires (params_of m.key) (params_of m.key) fine body.fits (CallEarlier-at modules deck.calls i m at) (width_of i m at) one.blocks h.rule in
+        comes m.items wires (params_of m.key) (params_of m.key) fine body.fits (CallEarlier-at modules deck.calls i m at) (width_of i m at) one.blocks (rule i m one at got) in
         subst (λ (gs : List Gate). IsLegal gs k d (called i)) (sym (gates_are i m at)) (subst (IsLegal _ k d) (sym (expanded_is i m one at got)) flat)
       where
         zero_of : (class : Class) → number_of class no_wires ≡ 0

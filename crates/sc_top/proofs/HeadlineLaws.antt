@@ -1,8 +1,13 @@
 -- The headline: what the texts of an accepted source are.
-use Rattle.std.proofs.Common.{◌≡◌, ℕ, ◌<◌, ◌≤◌, ◌^◌, max, Bool, List, [], ◌∷◌, ◌++◌, map, length, Option, Result, Ok, Err, refl, sym, ◌∙◌, ap, subst, append-nil, inl, inr, arith}
+use Rattle.std.proofs.Common.{◌≡◌, ℕ, ◌-◌, ◌<◌, ◌≤◌, ◌^◌, max, Bool, List, [], ◌∷◌, ◌++◌, map, length, Option, Result, Ok, Err, refl, sym, ◌∙◌, ap, subst, append-nil, inl, inr, arith}
 use Rattle.std.proofs.lemmas.Bool.{cases_lt}
 use Rattle.std.proofs.lemmas.List.{length-map}
 use Rattle.sc_base.specs.Limits.{most_gates}
+use Rattle.sc_coarse.proofs.ExpandedLaws.{expanded_legal, last_there}
+use Rattle.sc_coarse.specs.CoarseDecks.{AreCoarse}
+use Rattle.sc_coarse.specs.Expansions.{expanded}
+use Rattle.sc_coarse.specs.Refusals.{NoneIsWide}
+use Rattle.sc_coarse.specs.declared.coarse.Instance.{Instance}
 use Rattle.sc_check.proofs.Breaches.{legal_to}
 use Rattle.sc_check.specs.declared.finding.Finding.{Finding}
 use Rattle.sc_check.specs.declared.finding.Finding.TheVariants.{Legal}
@@ -26,12 +31,14 @@ use Rattle.sc_read.proofs.FlatLines.{written_is_read}
 use Rattle.sc_read.proofs.HierTexts.{sound_text_read}
 use Rattle.sc_read.specs.declared.flat.FlatText.{FlatText}
 use Rattle.sc_sched.proofs.StepLaws.{have_text}
+use Rattle.sc_sched.specs.Legal.{IsLegal}
 use Rattle.sc_sched.specs.PrioritySchedules.{IsPrioritySchedule}
 use Rattle.sc_sched.specs.Text.{IsSize, IsTextOf, schedule_text}
 use Rattle.sc_sched.specs.declared.order.Rank.{Rank}
 use Rattle.sc_sched.specs.declared.plan.Plan.{Plan}
 use Rattle.sc_types.specs.Typing.{TypedSource}
 use Rattle.sc_top.specs.Answers.{SourceOf, Says, watched, done}
+use Rattle.sc_top.specs.Coarsened.{IsCoarsened, coarsened, coarsened_text}
 use Rattle.sc_top.specs.Endings.{Output}
 use Rattle.sc_top.specs.Expansions.{whole, ones}
 use Rattle.sc_top.specs.Headline.{meaning_list, meaning_text, AreNumbersOf, Headline}
@@ -45,15 +52,17 @@ use Rattle.sc_top.specs.Stages.{goes}
 use Rattle.sc_top.specs.Tallied.{durations, IsSummarized}
 use Rattle.sc_top.specs.Verdicts.{IsVerdict}
 use Rattle.sc_top.specs.Watching.{Watcher, asked_of, probe_lines}
+use Rattle.sc_top.specs.declared.coarsened.Coarsened.{Coarsened}
 use Rattle.sc_top.specs.declared.fault.Refusal.{Refusal}
 use Rattle.sc_top.specs.declared.report.Summary.{Summary}
 use Rattle.sc_words.specs.declared.Request.TheVariants.{Schedule}
+use Rattle.sc_top.proofs.CoarseLemmas.{has_coarse}
 use Rattle.sc_top.proofs.ListedGates.{listed_gates_stand}
 use Rattle.sc_top.proofs.ListLemmas.{has_list}
 use Rattle.sc_top.proofs.ModeLemmas.{has_summary, has_plan}
 use Rattle.sc_top.proofs.OneAnswer.{one_source_of}
 use Rattle.sc_top.proofs.OtherLemmas.{has_shortened}
-use Rattle.sc_top.proofs.SourceLaws.{accepted_source, writable, unfolded_gates, unfolded_sums, unfolded_text, modules_unfold}
+use Rattle.sc_top.proofs.SourceLaws.{checked_sources, accepted_source, writable, unfolded_gates, unfolded_sums, unfolded_text, modules_unfold}
 use Rattle.sc_top.proofs.StageLemmas.{given, same_value}
 use Rattle.sc_top.proofs.WatchLemmas.{none_asked, none_watch}
 
@@ -179,14 +188,30 @@ written_plan held all file choice modules k d lpfs times text here (goes plan r 
   ap text_of is,
 )
 
+-- ---- `coarse`
+
+-- the coarse schedules of a deck, which the stages gave
+coarse_of : (k d : ℕ) (lpfs : Bool) (modules : List Module) (c : Coarsened) → IsCoarsened k d lpfs modules (Ok c) → (c ≡ coarsened modules c.coarse) × AreCoarse (order_by lpfs) k d modules c.coarse
+coarse_of k d lpfs modules c (goes counted r within (goes instances s (goes few x fits (goes room y narrow coarse)) is)) =
+    let same : c ≡ coarsened modules instances = same_value is in
+    (same ∙ ap (coarsened modules) (ap (λ (x : Coarsened). x.coarse) (sym same)), subst (AreCoarse (order_by lpfs) k d modules) (ap (λ (x : Coarsened). x.coarse) (sym same)) coarse)
+
+-- that of the last instance of a whole deck expands to a legal schedule of its gates
+coarse_legal : (k d : ℕ) (lpfs : Bool) (modules : List Module) (instances : List Instance) → IsDeck modules → IsWhole modules → 1 ≤ k → NoneIsWide d modules → AreCoarse (order_by lpfs) k d modules instances →
+    IsLegal (gates_in (whole modules)) k d (expanded modules instances (length modules - 1))
+coarse_legal k d lpfs modules instances deck is_whole some narrow coarse =
+    expanded_legal (order_by lpfs) k d modules deck instances coarse.many coarse.rule some narrow (length modules - 1) (last_there modules is_whole)
+
 -- ---- the headline
 
 pub headline : Headline
 headline = record {
+  sources = checked_sources;
   texts = λ held all file text t holds within accepted choice.
       let expands = all_expand t accepted.typed.main accepted.typed.checked accepted.runs choice in
       let modules = modules_of t choice in
       let deck = (all_decks t accepted.typed.main accepted.typed.checked accepted.runs choice).1 in
+      let is_whole = IsWhole-folded (instances t choice) (all_whole t accepted.typed.main accepted.typed.checked accepted.runs choice) in
       let same = unfolded_text t choice expands in
       let gates = unfolded_gates t choice expands in
       let here : SourceOf held file choice (Ok modules) = goes text _ (holds, within) (accepted_source text t choice accepted) in
@@ -211,11 +236,18 @@ headline = record {
             );
         checks = λ texts list schedule text k d lpfs times many wide held_list short says held_plan small.
             let (plan, scheduled, is) = written_plan held all file choice modules k d lpfs times text here says in
-            let is_whole = IsWhole-folded (instances t choice) (all_whole t accepted.typed.main accepted.typed.checked accepted.runs choice) in
             let verdict = found_legal k d lpfs (durations times) modules plan deck is_whole many wide scheduled in
             goes Legal _
             (goes (meaning_text t choice) _ (held_list, short)
             (goes text _ (held_plan, small) (subst (λ (x : List ℕ). IsVerdict (meaning_text t choice) x (Ok Legal)) (sym is) (subst (λ (x : List ℕ). IsVerdict x (schedule_text plan) (Ok Legal)) same verdict)))) refl;
+        writes_coarse = λ k d lpfs some fits.
+            let (c, is) = has_coarse k d lpfs modules some fits in
+            let (same, coarse) = coarse_of k d lpfs modules c is in (
+              c.coarse,
+              coarse,
+              subst (λ (gs : List Gate). IsLegal gs k d (expanded modules c.coarse (length modules - 1))) gates (coarse_legal k d lpfs modules c.coarse deck is_whole some fits.room coarse),
+              goes c _ (goes modules _ here is) (ap (λ (x : Coarsened). written (done (coarsened_text k d x))) (sym same)),
+            );
         writes_open = λ fits.
             goes (list_of modules) _ (goes modules _ here (has_list ones modules fits)) (ap (λ (list : FlatText). written (done (lowered_text list))) (sym (list_is t choice expands)));
         writes_shortened = λ kinds burst window reach fits.

@@ -8,16 +8,19 @@ use Rattle.sc_gate.specs.Numbers.{Numbers, with_more, no_wires}
 use Rattle.sc_meaning.specs.declared.choice.Choice.{Choice}
 use Rattle.sc_meaning.specs.Meaning.{run, instances, meaning, Expands, expansion_of_last, other_events}
 use Rattle.sc_meaning.specs.Outcomes.{events_of}
+use Rattle.sc_parse.proofs.FormedSources.{source_formed}
+use Rattle.sc_syntax.proofs.LexedRead.{lexed_are_read}
 use Rattle.sc_syntax.specs.Alike.{pure_part}
 use Rattle.sc_syntax.specs.Formed.{IsFormedSource}
 use Rattle.sc_syntax.specs.declared.Part.{Part}
 use Rattle.sc_syntax.specs.declared.Part.TheVariants as part
+use Rattle.sc_types.proofs.TypedParts.{checked_of}
 use Rattle.sc_types.specs.Accepted.{Taken, IsAcceptedPart, AreAccepted, IsAccepted}
 use Rattle.sc_types.specs.Typing.{TypedSource, IsTyped, AreTyped, IsWellTyped, main_at}
 use Rattle.sc_word.specs.Typed.{TypedWords}
 use Rattle.sc_top.specs.Expansions.{whole, FitsFlat, IsWritable}
 use Rattle.sc_top.specs.Headline.{meaning_text}
-use Rattle.sc_top.specs.Sources.{modules_of, IsCheckedSource, IsSource, IsAcceptedAs}
+use Rattle.sc_top.specs.Sources.{modules_of, IsCheckedSource, AreCheckedSources, IsSource, IsAcceptedAs}
 use Rattle.sc_top.specs.Stages.{goes}
 
 -- ---- what rests on how the deck is made of the instances
@@ -47,6 +50,11 @@ checked_source t main formed typed accepted is = record {
   main = main;
   checked = record { formed = formed; well_typed = typed; words = typed_parts _ t.source.parts t.words accepted; main_is = is };
 }
+
+pub checked_sources : AreCheckedSources
+checked_sources text tokens tree lexed accepted derives well_typed =
+    let (t, main, is, checked) = checked_of tree (source_formed text tokens tree (lexed_are_read text tokens lexed) derives) well_typed in
+    (t, is, record { main = main; checked = checked })
 
 -- ---- an accepted source
 

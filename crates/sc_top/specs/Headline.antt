@@ -1,7 +1,11 @@
 -- What the texts of an accepted source are.
-use Rattle.std.specs.Prelude.{◌≡◌, ℕ, ◌≤◌, Bool, false, List, ◌++◌, Option, Some, Ok, is_some, map, length}
+use Rattle.std.specs.Prelude.{◌≡◌, ℕ, ◌≤◌, ◌-◌, Bool, false, List, ◌++◌, Option, Some, Ok, is_some, map, length}
 use Rattle.sc_base.specs.Limits.{most_source_bytes, most_text_bytes}
 use Rattle.sc_check.specs.declared.finding.Finding.TheVariants.{Legal}
+use Rattle.sc_coarse.specs.CoarseDecks.{AreCoarse}
+use Rattle.sc_coarse.specs.CoarseText.{coarse_text}
+use Rattle.sc_coarse.specs.Expansions.{expanded}
+use Rattle.sc_coarse.specs.declared.coarse.Instance.{Instance}
 use Rattle.sc_count.specs.Counting.{kinds_of, peak_of}
 use Rattle.sc_count.specs.Limits.{IsWithin}
 use Rattle.sc_deck.specs.Events.{flat, gates_in, fresh_in}
@@ -15,21 +19,23 @@ use Rattle.sc_meaning.specs.Decks.{AreShort}
 use Rattle.sc_meaning.specs.Meaning.{run, meaning, instances}
 use Rattle.sc_meaning.specs.Outcomes.{events_of}
 use Rattle.sc_read.specs.declared.flat.FlatText.{FlatText}
+use Rattle.sc_sched.specs.Legal.{IsLegal}
 use Rattle.sc_sched.specs.Text.{IsSize, schedule_text}
 use Rattle.sc_sched.specs.declared.plan.Plan.{Plan}
 use Rattle.sc_top.specs.Answers.{Says, done}
+use Rattle.sc_top.specs.Coarsened.{IsCoarsenable}
 use Rattle.sc_top.specs.Expansions.{whole, ones, counts_by, FitsFlat}
 use Rattle.sc_top.specs.Listed.{IsListable}
 use Rattle.sc_top.specs.Lowered.{lowered_text}
 use Rattle.sc_top.specs.Reports.{report_text}
 use Rattle.sc_top.specs.Scheduled.{order_by, IsPlanOf, IsSchedulable}
 use Rattle.sc_top.specs.Shortened.{shortened_text}
-use Rattle.sc_top.specs.Sources.{modules_of, IsAcceptedAs}
+use Rattle.sc_top.specs.Sources.{modules_of, IsAcceptedAs, AreCheckedSources}
 use Rattle.sc_top.specs.Tallied.{durations}
 use Rattle.sc_top.specs.Verdicts.{judged}
 use Rattle.sc_top.specs.Watching.{Watcher, asked_of, probe_lines}
 use Rattle.sc_top.specs.declared.report.Summary.{Summary}
-use Rattle.sc_words.specs.declared.Request.TheVariants.{Hier, Flat, Count, Schedule, Expand, Check, ToOpen, Cancel}
+use Rattle.sc_words.specs.declared.Request.TheVariants.{Hier, Flat, Count, Schedule, Expand, Check, Coarse, ToOpen, Cancel}
 
 -- the list of the meaning of a source: its gates, and the sums of the fresh wires of its run
 abbrev pub meaning_list : TypedSource → Choice → FlatText
@@ -78,6 +84,11 @@ pub record HasTexts (held : List ℕ → Option (List ℕ)) (all : List Watcher)
   pub checks : (texts : List ℕ → Option (List ℕ)) (list schedule written : List ℕ) (k d : ℕ) (lpfs : Bool) (times : Option (List ℕ)) → IsSize k → IsSize d →
       texts list ≡ Some (meaning_text t choice) → length (meaning_text t choice) ≤ most_text_bytes → Says held all (Schedule file choice k d lpfs times) (Ok (done written)) →
       texts schedule ≡ Some written → length written ≤ most_text_bytes → Says texts all (Check list schedule) (Ok (judged Legal))
+  -- `coarse` writes the one coarse schedule of each instance; that of main expands to a legal schedule of these gates
+  pub writes_coarse : (k d : ℕ) (lpfs : Bool) → 1 ≤ k → IsCoarsenable d (modules_of t choice) →
+      (instances : List Instance) × AreCoarse (order_by lpfs) k d (modules_of t choice) instances
+      × IsLegal (meaning t choice) k d (expanded (modules_of t choice) instances (length (modules_of t choice) - 1))
+      × Says held all (Coarse file choice k d lpfs) (Ok (done (coarse_text k d (modules_of t choice) instances)))
   -- `open` writes what they are lowered to, and `cancel` those that stay when the pairs that undo each other are taken out
   pub writes_open : IsListable ones (modules_of t choice) → Says held all (ToOpen file choice) (Ok (done (lowered_text (meaning_list t choice))))
   pub writes_shortened : (kinds burst window reach : Bool) → IsListable ones (modules_of t choice) →
@@ -86,6 +97,8 @@ pub record HasTexts (held : List ℕ → Option (List ℕ)) (all : List Watcher)
 
 -- THE HEADLINE
 pub record Headline : Type 0 where
+  -- each text in which nothing is wrong before its run has one typed source
+  pub sources : AreCheckedSources
   -- the texts of each accepted source agree, and their gates are its meaning
   pub texts : (held : List ℕ → Option (List ℕ)) (all : List Watcher) (file text : List ℕ) (t : TypedSource) → held file ≡ Some text → length text ≤ most_source_bytes → IsAcceptedAs text t →
       (choice : Choice) → HasTexts held all file t choice

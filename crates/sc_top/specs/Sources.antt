@@ -32,6 +32,13 @@ pub record IsCheckedSource (t : TypedSource) : Type 0 where
   pub main : ℕ
   pub checked : IsChecked t main
 
+-- a text that has tokens, is in the grammar and not nested too deep, and in which no check of names and kinds fails, has its typed
+-- functions: so it is accepted where its run is not refused
+abbrev pub AreCheckedSources : Type 0
+AreCheckedSources =
+    (text : List ℕ) (tokens : List Token) (tree : Source) → IsLexed text tokens → IsAccepted (pieces text tokens) → IsTreeOf text tokens tree → fault_of tree ≡ None →
+    (t : TypedSource) × (t.source ≡ tree) × IsCheckedSource t
+
 -- the tree is well typed, and these are its typed functions
 abbrev pub IsTyped : Source → Result TypedSource Refusal → Type 0
 IsTyped tree = Gives (λ t. (t.source ≡ tree) × IsCheckedSource t) (λ mistake. fault_of tree ≡ Some mistake) type_refusal

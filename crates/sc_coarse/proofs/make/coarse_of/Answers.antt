@@ -19,14 +19,14 @@ returns-in-Ok-clause-coarse g c = λ i m one at got.
 
 pub returns-in-Ok-clause-legal : goal.returns-in-Ok-clause-legal
 returns-in-Ok-clause-legal g c =
-    expanded_legal (g.P.Priority.comes c.args.order.now) c.args.k c.args.d c.args.deck.now c.in-Ok.ensures.sound c.new.result
-    (subst (AreMade (g.P.Priority.comes c.args.order.now) c.args.k c.args.d c.args.deck.now (length c.args.deck.now)) (sym c.new.ensures) c.in-Ok.ensures.made)
+    expanded_legal (g.P.Priority.comes c.args.order.now) c.args.k c.args.d c.args.deck.now c.in-Ok.ensures.sound c.new.result (returns-in-Ok-clause-many g c) (returns-in-Ok-clause-rule g c)
     c.requires.k c.in_default.ensures.none (length c.args.deck.now - 1) (last_there c.args.deck.now c.requires.whole)
 
 pub returns-in-Ok-clause-length : goal.returns-in-Ok-clause-length
 returns-in-Ok-clause-length g c =
-    length_is (g.P.Priority.comes c.args.order.now) c.args.k c.args.d c.args.deck.now c.in-Ok.ensures.sound c.new.result
-    (subst (AreMade (g.P.Priority.comes c.args.order.now) c.args.k c.args.d c.args.deck.now (length c.args.deck.now)) (sym c.new.ensures) c.in-Ok.ensures.made)
+    let made = subst (AreMade (g.P.Priority.comes c.args.order.now) c.args.k c.args.d c.args.deck.now (length c.args.deck.now)) (sym c.new.ensures) c.in-Ok.ensures.made in
+    length_is (g.P.Priority.comes c.args.order.now) c.args.k c.args.d c.args.deck.now c.in-Ok.ensures.sound c.new.result (returns-in-Ok-clause-many g c) (returns-in-Ok-clause-rule g c)
+    (λ i m one at got. (made.each i m one at got).length)
 
 pub returns-in-Some-clause-narrow : goal.returns-in-Some-clause-narrow
 returns-in-Some-clause-narrow g c = narrow_iff Coarse c.args.d c.args.deck.now c.in-Some.i c.in-Some.x (sym c.is_too_large.ensures ∙ c.if-is_too_large.false) c.in-Some.ensures.first
