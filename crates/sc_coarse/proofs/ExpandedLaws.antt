@@ -137,7 +137,7 @@ last_there modules whole = by (slice_get modules (length modules - 1)) refl whol
     by (Some m) e h = slice_get_within modules (length modules - 1) m e
 
 module _ (comes : Rank → Rank → Bool) (k d : ℕ) (modules : List Module) (deck : IsDeck modules) (c : List Instance) (many : length c ≡ length modules)
-  (rule : (i : ℕ) (m : Module) (one : Instance) → slice_get modules i ≡ Some m → slice_get c i ≡ Some one → IsCoarseRule comes k d m.items one.blocks) where
+    (rule : (i : ℕ) (m : Module) (one : Instance) → slice_get modules i ≡ Some m → slice_get c i ≡ Some one → IsCoarseRule comes k d m.items one.blocks) where
   called : ℕ → List Step
   called = expanded modules c
 

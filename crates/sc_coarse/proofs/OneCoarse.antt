@@ -163,9 +163,11 @@ module _ (comes : Rank → Rank → Bool) (k d : ℕ) (order : IsRankOrder comes
       let (all, h) = have_blocks some modules narrow in
       let none : ℕ → ℕ = λ i. 0 in
       let lengths : ℕ → ℕ = λ i. length (expanded modules (measured none all) i) in
-      let same : map blocks_of (measured none all) ≡ map blocks_of (measured lengths all) = measured_blocks none all ∙ sym (measured_blocks lengths all) in
-      (measured lengths all, record {
-        many = measured_many lengths all ∙ h.many;
-        rule = h.rule lengths;
-        length = λ i one at. measured_long lengths all i one at ∙ same_expanded modules (measured none all) (measured lengths all) same i;
-      })
+      let same : map blocks_of (measured none all) ≡ map blocks_of (measured lengths all) = measured_blocks none all ∙ sym (measured_blocks lengths all) in (
+        measured lengths all,
+        record {
+          many = measured_many lengths all ∙ h.many;
+          rule = h.rule lengths;
+          length = λ i one at. measured_long lengths all i one at ∙ same_expanded modules (measured none all) (measured lengths all) same i;
+        },
+      )

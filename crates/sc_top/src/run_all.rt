@@ -158,16 +158,7 @@ fn carry<F: Shelf, O: Sink>(
             k,
             d,
             lpfs,
-        } => carry_coarse(
-            alloc,
-            file.as_bytes(),
-            *choice,
-            *k,
-            *d,
-            *lpfs,
-            shelf,
-            out,
-        ),
+        } => carry_coarse(alloc, file.as_bytes(), *choice, *k, *d, *lpfs, shelf, out),
     }
 }
 

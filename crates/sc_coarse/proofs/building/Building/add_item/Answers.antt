@@ -6,7 +6,7 @@ use Rattle.sc_coarse.proofs.building.Building.add_item.Goals as goal
 
 pub returns-in-Fresh-clause-built : goal.returns-in-Fresh-clause-built
 returns-in-Fresh-clause-built g c = λ parts rest h. built_fresh (g.P.Priority.comes c.args.order.now) c.args.k c.args.d parts c.args.at c.in-Fresh.field-0 c.in-Fresh.field-1 rest c.args.self.now
-      (subst (λ (i : Item). IsBuilt (g.P.Priority.comes c.args.order.now) c.args.k c.args.d parts c.args.at (i ∷ rest) c.args.self.now) c.in-Fresh.is h)
+    (subst (λ (i : Item). IsBuilt (g.P.Priority.comes c.args.order.now) c.args.k c.args.d parts c.args.at (i ∷ rest) c.args.self.now) c.in-Fresh.is h)
 
 pub returns-in-Call-clause-can : goal.returns-in-Call-clause-can
 returns-in-Call-clause-can g c = OnOk-map c.add_single.result (can_none c.args.d _) c.add_single.ensures.gates
