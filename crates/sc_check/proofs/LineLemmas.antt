@@ -5,7 +5,7 @@ use Rattle.std.proofs.lemmas.Bool.{false≢true}
 use Rattle.std.proofs.lemmas.List.Concat.{flat_map-append}
 use Rattle.std.proofs.lemmas.List.Elements.{All-append}
 use Rattle.std.proofs.Common.{get_or}
-use Rattle.sc_base.specs.Lines.{IsLine, joined, NeverBreaks, ReadTo}
+use Rattle.sc_base.specs.Lines.{IsLine, joined, ReadTo}
 use Rattle.sc_base.proofs.FeedLemmas.{NoFeed, no_feed_nil, no_feed_more, no_feed-append, no_feed_from_test, no_feed_decimal, line_from, number_line-IsLine}
 use Rattle.sc_base.proofs.TextLines.{read_nothing, read_more, read_short}
 use Rattle.sc_gate.specs.Lines.{number_line}

@@ -1,13 +1,12 @@
 -- A text in the grammar has no bad line, and is that of one schedule; a text has one first bad line.
-use Rattle.std.proofs.Common.{◌≡◌, ◌≢◌, ℕ, suc, ◌+◌, ◌<◌, ◌≤◌, ◌^◌, Bool, true, false, List, [], ◌∷◌, ◌++◌, length, map, refl, sym, ap, ◌∙◌, subst, arith, inl, inr, append_assoc, append-nil}
+use Rattle.std.proofs.Common.{◌≡◌, ℕ, suc, ◌+◌, ◌<◌, ◌≤◌, ◌^◌, Bool, true, false, List, [], ◌∷◌, ◌++◌, length, refl, sym, ap, ◌∙◌, subst, arith, inl, inr, append_assoc}
 use Rattle.std.specs.Prelude.{codes, All, flat_map, decimal}
-use Rattle.std.proofs.lemmas.List.Concat.{flat_map-append}
 use Rattle.sc_base.specs.Lines.{NeverBreaks, ReadTo, IsReadWhole, LeadsOneWay}
 use Rattle.sc_base.proofs.TextLines.{read_nothing, read_more, read_whole, whole_not_bad, one_bad}
 use Rattle.sc_gate.specs.Lines.{number_line}
 use Rattle.sc_sched.specs.declared.plan.Plan.{Plan}
 use Rattle.sc_sched.specs.Legal.{Region, Step}
-use Rattle.sc_sched.specs.Text.{after_spaces, region_line, step_text, schedule_text, IsSize, IsWritable, HasText, IsTextOf, Stage, Title, Regions, Width, Gates, Steps, Body, Over, InPlace, IsOver, IsBadLine}
+use Rattle.sc_sched.specs.Text.{after_spaces, region_line, step_text, schedule_text, IsWritable, IsTextOf, Stage, Title, Regions, Width, Gates, Steps, Body, Over, InPlace, IsOver, IsBadLine}
 use Rattle.sc_base.proofs.NumeralLemmas.{head_is, tail_is, append_cancel, number_unique, number_line_one_way}
 use Rattle.sc_check.proofs.ReaderLemmas.{after_ends, region_parts}
 use Rattle.sc_check.proofs.LineLemmas.{title_is_line, step_is_line, end_is_line, regions_is_line, width_is_line, gates_is_line, steps_is_line, regions_read}

@@ -7,7 +7,7 @@ use sc_sched::Region;
 use std::alloc::Global;
 
 /// The same list, without room for more elements.
-pub(crate) fn exact<T>(list: List<T>) -> List<T>
+fn exact<T>(list: List<T>) -> List<T>
     ensures { result ≡ list }
 {
     let mut items = list.into_vec();

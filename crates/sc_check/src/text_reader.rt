@@ -1,15 +1,18 @@
 //! Schedule texts, line by line.
-ghost use Rattle.std.specs.Prelude.{◌≡◌, ◌+◌, ℕ, ◌<◌, ◌≤◌, ◌++◌, List as Values, length, codes, flat_map, IfOk, IfErr, All};
+ghost use Rattle.std.specs.Prelude.{◌≡◌, ◌+◌, ℕ, ◌<◌, ◌≤◌, ◌++◌, List as Values, [], length, codes, flat_map, IfOk, IfErr, OnOk, All};
 ghost use Rattle.sc_sched.specs.Text.{region_line, step_text, IsWritable, IsTextOf};
 ghost use Rattle.sc_check.specs.ReadFaults.{IsReadFault, IsBodyFault, ReadsBody, ReadsRegions};
 
-use crate::reader::{exact, take_region_line};
+use crate::reader::take_region_line;
 use sc_base::{List, Memory, take_number_line, take_text};
-use sc_sched::{Plan, Step};
+use sc_sched::{Plan, Region, Step};
 use std::alloc::Global;
 
 /// The greatest number of regions and of qubits of a region in a text.
 const GREATEST: u64 = 1_000_000;
+
+/// The first line of a step.
+const STEP: &[u8] = b"step\n";
 
 /// Why a text was not read.
 #[derive(Clone, Copy, Debug, PartialEq, Eq)]
@@ -65,14 +68,19 @@ fn read_steps(
     ensures ok { IfOk result (λ steps. ReadsBody gates count text.now steps) }
     ensures fault { IfErr result (λ fault. IsBodyFault gates count text.now fault) }
 {
-    let mut steps = List::new(alloc);
+    let room = (count as usize).min(text.len() / STEP.len());
+    let Ok(items) = Vec::with_capacity(alloc, room) else {
+        return Err(SchedReadFault::Memory);
+    };
+    let mut steps = List::from_vec(items);
+    let mut found = Vec::new(alloc);
     let mut rest = text;
     let mut line = 6;
     for begun in 0..count {
-        let Some(after_line) = take_text(rest, b"step\n") else {
+        let Some(after_line) = take_text(rest, STEP) else {
             return Err(SchedReadFault::BadSchedule(line));
         };
-        let Ok((step, after_step)) = take_regions(alloc, after_line, gates) else {
+        let Ok((step, after_step)) = take_regions(alloc, after_line, gates, &mut found) else {
             return Err(SchedReadFault::Memory);
         };
         line += 1 + step.len() as u32;
@@ -88,16 +96,25 @@ fn read_steps(
     }
 }
 
-/// The region lines with which the text begins, and what follows them.
-fn take_regions(alloc: Global, text: &[u8], gates: u32) -> Result<(Step, &[u8]), Memory>
-    requires { length text.now ≤ 134217728 }
-    ensures { IfOk result (λ r. ReadsRegions gates text.now r.0 r.1.now) }
+/// The region lines with which the text begins, and what follows them. They are gathered in `found`, and the step has
+/// exactly the room that it needs.
+fn take_regions<'a>(
+    alloc: Global,
+    text: &'a [u8],
+    gates: u32,
+    found: &mut Vec<Region>,
+) -> Result<(Step, &'a [u8]), Memory>
+    requires short { length text.now ≤ 134217728 }
+    requires empty { found.old.items ≡ [] }
+    ensures regions { IfOk result (λ r. ReadsRegions gates text.now r.0 r.1.now) }
+    ensures empty { OnOk result (found.new.items ≡ []) }
 {
-    let mut step = List::new(alloc);
     let mut rest = text;
     while let Some((region, more)) = take_region_line(alloc, rest, gates)? {
-        step.push(region)?;
+        found.push(region)?;
         rest = more;
     }
-    Ok((exact(step), rest))
+    let mut step = Vec::with_capacity(alloc, found.len())?;
+    step.append(found)?;
+    Ok((List::from_vec(step), rest))
 }

@@ -1,6 +1,6 @@
 -- Sets of numbers as bits of words: one bit changes, and the first bit that is set is found.
 use Rattle.std.proofs.Common.{◌≡◌, ◌≢◌, ℕ, zero, suc, get_or, ◌+◌, ◌-◌, ◌*◌, ◌/◌, ◌%◌, ◌<◌, ◌≤◌, ◌^◌, Bool, true, false, not, List, length, refl, sym, ap, ◌∙◌, arith, inl, inr, min}
-use Rattle.std.specs.Prelude.{slice_index, slice_index_or, slice_set, ◌==◌, replicate}
+use Rattle.std.specs.Prelude.{Option, Some, None, IfSome, IfNone, slice_index, slice_index_or, slice_set, ◌==◌, replicate}
 use Rattle.std.specs.Int.{bit_at}
 use lib.Bits.{bit_and}
 use mathlib.Core.Bool.{beq}
@@ -28,8 +28,8 @@ masked_out word from k b l = rw (ones_shl 64 from (omega (arith, b)), bit_at_and
 pub many_members : (words : List ℕ) (bound : ℕ) → length (members words bound) ≡ bound
 many_members words bound = length-map (positions bound) (is_member words) ∙ length_positions bound
 
-pub member_at : (words : List ℕ) (used : List Bool) (bound : ℕ) → IsWordSet words used bound → (i : ℕ) → slice_index_or (members words bound) i false ≡ is_member words i
-member_at words used bound w i = elim (cases_lt i bound) [
+pub member_at : (words : List ℕ) (used : List Bool) (bound low : ℕ) → IsWordSet words used bound low → (i : ℕ) → slice_index_or (members words bound) i false ≡ is_member words i
+member_at words used bound low w i = elim (cases_lt i bound) [
   | inl l ↦ get_or-map (is_member words) (positions bound) i 0 false (omega (arith, l, length_positions bound)) ∙ ap (is_member words) (positions_at bound i 0 l)
   | inr g ↦ get_or_past (members words bound) i false (omega (arith, g, many_members words bound)) ∙ sym (w.past i g)
 ]
@@ -57,13 +57,28 @@ is_set words h b l e = rw (word_of h b l, bit_of h b l, e) refl
 abbrev pub FirstFrom : List Bool → ℕ → ℕ → Type 0
 FirstFrom s from i = (from ≤ i) × (i < length s) × (slice_index_or s i false ≡ true) × ((k : ℕ) → from ≤ k → k < i → slice_index_or s k false ≡ false)
 
+-- where none is a member from a number up to another, the least from the other on is the least from the first on
+pub first_sooner : (s : List Bool) (from start : ℕ) (r : Option ℕ) → from ≤ start → ((k : ℕ) → from ≤ k → k < start → slice_index_or s k false ≡ false) → IfSome r (FirstFrom s start) → IfSome r (FirstFrom s from)
+first_sooner s from start None l none h = tt
+first_sooner s from start (Some i) l none h = (
+  omega (arith, h.0, l),
+  h.1,
+  h.2,
+  λ k m b. elim (cases_lt k start) [ inl c ↦ none k m c | inr g ↦ h.3 k g b ],
+)
+
+pub none_sooner : (s : List Bool) (from start : ℕ) (r : Option ℕ) → ((k : ℕ) → from ≤ k → k < start → slice_index_or s k false ≡ false) →
+    IfNone r ((k : ℕ) → start ≤ k → k < length s → slice_index_or s k false ≡ false) → IfNone r ((k : ℕ) → from ≤ k → k < length s → slice_index_or s k false ≡ false)
+none_sooner s from start None none h = λ k m b. elim (cases_lt k start) [ inl c ↦ none k m c | inr g ↦ h k g b ]
+none_sooner s from start (Some i) none h = tt
+
 pub same_empty : (a b : Bool) → not (beq a b) ≡ false → not a ≡ not b
 same_empty true true h = refl
 same_empty true false h = absurd (false≢true (sym h))
 same_empty false true h = absurd (false≢true (sym h))
 same_empty false false h = refl
 
-module _ (words : List ℕ) (used : List Bool) (bound : ℕ) (w : IsWordSet words used bound) where
+module _ (words : List ℕ) (used : List Bool) (bound low : ℕ) (w : IsWordSet words used bound low) where
   inside : (i : ℕ) → is_member words i ≡ true → i < bound
   inside i t = elim (cases_lt i bound) [ inl l ↦ l | inr g ↦ absurd (false≢true (sym (w.past i g) ∙ t)) ]
 
@@ -82,17 +97,17 @@ module _ (words : List ℕ) (used : List Bool) (bound : ℕ) (w : IsWordSet word
     pub none_from : length words ≤ there → (k : ℕ) → from ≤ k → k < length (members words bound) → slice_index_or (members words bound) k false ≡ false
     none_from b k l c =
         let d : k / 64 < length words = omega (arith, c, many_members words bound, w.many) in
-        member_at words used bound w k ∙ none_before k l (omega (arith, d, b)) d
+        member_at words used bound low w k ∙ none_before k l (omega (arith, d, b)) d
 
-    pub found_there : here + 1 ≤ there → there < length words → (low : ℕ) → low < 64 → bit_at (slice_index words there) low ≡ 1 → ((k : ℕ) → k < low → bit_at (slice_index words there) k ≡ 0) →
-        (from ≤ 64 * there + low) × (64 * there + low < length (members words bound)) × (slice_index_or (members words bound) (64 * there + low) false ≡ true)
-        × ((k : ℕ) → from ≤ k → k < 64 * there + low → slice_index_or (members words bound) k false ≡ false)
-    found_there after b low l t lowest =
-        let set : is_member words (64 * there + low) ≡ true = is_set words there low l t in (
+    pub found_there : here + 1 ≤ there → there < length words → (bit : ℕ) → bit < 64 → bit_at (slice_index words there) bit ≡ 1 → ((k : ℕ) → k < bit → bit_at (slice_index words there) k ≡ 0) →
+        (from ≤ 64 * there + bit) × (64 * there + bit < length (members words bound)) × (slice_index_or (members words bound) (64 * there + bit) false ≡ true)
+        × ((k : ℕ) → from ≤ k → k < 64 * there + bit → slice_index_or (members words bound) k false ≡ false)
+    found_there after b bit l t lowest =
+        let set : is_member words (64 * there + bit) ≡ true = is_set words there bit l t in (
           omega (arith, after, e),
-          (let i : 64 * there + low < bound = inside (64 * there + low) set in omega (arith, i, many_members words bound)),
-          member_at words used bound w (64 * there + low) ∙ set,
-          λ k m c. member_at words used bound w k ∙ elim (cases_eq (k / 64) there) [
+          (let i : 64 * there + bit < bound = inside (64 * there + bit) set in omega (arith, i, many_members words bound)),
+          member_at words used bound low w (64 * there + bit) ∙ set,
+          λ k m c. member_at words used bound low w k ∙ elim (cases_eq (k / 64) there) [
             | inl q ↦ is_clear words k (ap (λ (j : ℕ). bit_at (slice_index words j) (k % 64)) q ∙ lowest (k % 64) (omega (arith, c, q)))
             | inr d ↦ (let f : k / 64 < there = omega (arith, c, d, l) in none_before k m f (omega (arith, f, b)))
           ],
@@ -105,9 +120,9 @@ module _ (words : List ℕ) (used : List Bool) (bound : ℕ) (w : IsWordSet word
       let set : is_member words (64 * here + bit) ≡ true = is_set words here bit l t in (
         omega (arith, e, a),
         (let i : 64 * here + bit < bound = inside (64 * here + bit) set in omega (arith, i, many_members words bound)),
-        member_at words used bound w (64 * here + bit) ∙ set,
+        member_at words used bound low w (64 * here + bit) ∙ set,
         λ k m c. (let q : k / 64 ≡ here = omega (arith, m, c, e, l) in
-            member_at words used bound w k ∙ is_clear words k (ap (λ (j : ℕ). bit_at (slice_index words j) (k % 64)) q ∙ lowest (k % 64) (omega (arith, m, q, e)) (omega (arith, c, q)))),
+            member_at words used bound low w k ∙ is_clear words k (ap (λ (j : ℕ). bit_at (slice_index words j) (k % 64)) q ∙ lowest (k % 64) (omega (arith, m, q, e)) (omega (arith, c, q)))),
       )
 
   -- a bit of a word changes
@@ -133,15 +148,24 @@ module _ (words : List ℕ) (used : List Bool) (bound : ℕ) (w : IsWordSet word
         get_or-map (is_member (slice_set words (i / 64) word)) (positions bound) k 0 false (omega (arith, c, length_positions bound)) ∙ ap (is_member (slice_set words (i / 64) word)) (positions_at bound k 0 c) in
         at ∙ elim (cases_eq k i) [
           | inl e ↦ rw e (put_here ∙ sym (get_or-set_same (members words bound) i is_in false (omega (arith, b, many_members words bound))))
-          | inr d ↦ put_other k d ∙ (sym (member_at words used bound w k) ∙ sym (get_or-set_other (members words bound) i k is_in false d))
+          | inr d ↦ put_other k d ∙ (sym (member_at words used bound low w k) ∙ sym (get_or-set_other (members words bound) i k is_in false d))
         ]))
+
+    put_below : (low' : ℕ) → ((k : ℕ) → k < low' → k ≢ i → k < low) → (is_in ≡ true → low' ≤ i) → (k : ℕ) → k < low' → is_member (slice_set words (i / 64) word) k ≡ false
+    put_below low' others_low here_low k l = elim (cases_eq k i) [
+      | inr d ↦ put_other k d ∙ w.below k (others_low k l d)
+      | inl e ↦ ap (is_member (slice_set words (i / 64) word)) e ∙ elim (cases_Bool is_in) [
+        | inl t ↦ absurd (omega (arith, here_low t, l, e))
+        | inr f ↦ put_here ∙ f
+      ]
+    ]
 
     put_past : (k : ℕ) → bound ≤ k → is_member (slice_set words (i / 64) word) k ≡ false
     put_past k l = put_other k (λ e. omega (arith, e, l, b)) ∙ w.past k l
 
-    put_used : (used' : List Bool) → length used' ≡ length used → slice_index_or used' (i / 64) false ≡ not (word == 0) → ((j : ℕ) → j ≢ i / 64 → slice_index_or used' j false ≡ slice_index_or used j false) →
-        IsWordSet (slice_set words (i / 64) word) used' bound
-    put_used used' many here rest = record {
+    put_used : (low' : ℕ) → ((k : ℕ) → k < low' → k ≢ i → k < low) → (is_in ≡ true → low' ≤ i) → (used' : List Bool) → length used' ≡ length used → slice_index_or used' (i / 64) false ≡ not (word == 0) → ((j : ℕ) → j ≢ i / 64 → slice_index_or used' j false ≡ slice_index_or used j false) →
+        IsWordSet (slice_set words (i / 64) word) used' bound low'
+    put_used low' others_low here_low used' many here rest = record {
       many = length-set words (i / 64) word ∙ w.many;
       many_used = many ∙ (w.many_used ∙ sym (length-set words (i / 64) word));
       used_is = λ j l. elim (cases_eq j (i / 64)) [
@@ -149,14 +173,17 @@ module _ (words : List ℕ) (used : List Bool) (bound : ℕ) (w : IsWordSet word
         | inr d ↦ rw (get_or-set_other words (i / 64) j word 0 d) (rest j d ∙ w.used_is j (omega (arith, l, length-set words (i / 64) word)))
       ];
       past = put_past;
+      below = put_below low' others_low here_low;
     }
 
     -- the word has a member now as it had before
-    pub put_same : not (slice_index words (i / 64) == 0) ≡ not (word == 0) → IsWordSet (slice_set words (i / 64) word) used bound
-    put_same same = put_used used refl (w.used_is (i / 64) there ∙ same) (λ j d. refl)
+    pub put_same : (low' : ℕ) → ((k : ℕ) → k < low' → k ≢ i → k < low) → (is_in ≡ true → low' ≤ i) → not (slice_index words (i / 64) == 0) ≡ not (word == 0) →
+        IsWordSet (slice_set words (i / 64) word) used bound low'
+    put_same low' others_low here_low same = put_used low' others_low here_low used refl (w.used_is (i / 64) there ∙ same) (λ j d. refl)
 
-    pub put_changed : (has : Bool) → has ≡ not (word == 0) → IsWordSet (slice_set words (i / 64) word) (slice_set used (i / 64) has) bound
-    put_changed has e = put_used (slice_set used (i / 64) has) (length-set used (i / 64) has) (get_or-set_same used (i / 64) has false (omega (arith, there, w.many_used)) ∙ e) (λ j d. get_or-set_other used (i / 64) j has false d)
+    pub put_changed : (low' : ℕ) → ((k : ℕ) → k < low' → k ≢ i → k < low) → (is_in ≡ true → low' ≤ i) → (has : Bool) → has ≡ not (word == 0) →
+        IsWordSet (slice_set words (i / 64) word) (slice_set used (i / 64) has) bound low'
+    put_changed low' others_low here_low has e = put_used low' others_low here_low (slice_set used (i / 64) has) (length-set used (i / 64) has) (get_or-set_same used (i / 64) has false (omega (arith, there, w.many_used)) ∙ e) (λ j d. get_or-set_other used (i / 64) j has false d)
 
 -- no member
 none_zero : (many i : ℕ) → is_member (replicate many 0) i ≡ false
@@ -173,12 +200,13 @@ none_members many bound = ext_get_or false (members (replicate many 0) bound) (r
     (λ k l. (let c : k < bound = omega (arith, l, many_members (replicate many 0) bound) in
     get_or-map (is_member (replicate many 0)) (positions bound) k 0 false (omega (arith, c, length_positions bound)) ∙ (none_zero many (get_or (positions bound) k 0) ∙ sym (get_or-replicate {A = Bool} bound k false false c))))
 
-pub none_set : (many bound : ℕ) → many ≡ bound / 64 + 1 → IsWordSet (replicate many 0) (replicate many false) bound
+pub none_set : (many bound : ℕ) → many ≡ bound / 64 + 1 → IsWordSet (replicate many 0) (replicate many false) bound bound
 none_set many bound e = record {
   many = length-replicate {A = ℕ} many 0 ∙ e;
   many_used = length-replicate {A = Bool} many false ∙ sym (length-replicate {A = ℕ} many 0);
   used_is = λ j l. both_none many j;
   past = λ i l. none_zero many i;
+  below = λ i l. none_zero many i;
 }
   where
     both_none : (n j : ℕ) → slice_index_or (replicate n false) j false ≡ not (slice_index (replicate n 0) j == 0)

@@ -14,6 +14,8 @@ pub struct NumberSet {
     words: Vec<u64>,
     used: NumberTree,
     bound: usize,
+    /// No member is below it.
+    low: usize,
 }
 
 impl Model for NumberSet {
@@ -21,7 +23,7 @@ impl Model for NumberSet {
 
     ghost view = { λ s. members s.words.items s.bound };
 
-    ghost invariant = { λ s. IsWordSet s.words.items s.used s.bound };
+    ghost invariant = { λ s. IsWordSet s.words.items s.used s.bound s.low };
 }
 
 impl NumberSet {
@@ -35,6 +37,7 @@ impl NumberSet {
             words,
             used: NumberTree::new(alloc, many)?,
             bound: n,
+            low: n,
         })
     }
 
@@ -43,6 +46,7 @@ impl NumberSet {
         requires { i < length self.old }
         ensures { self.new ≡ slice_set self.old i is_in }
     {
+        self.low = lowered(self.low, i, is_in);
         let at = i / 64;
         let word = self.words[at];
         let changed = with_bit(word, (i % 64) as u32, is_in);
@@ -57,6 +61,15 @@ impl NumberSet {
         ensures found { IfSome result (λ i. (from ≤ i) × (i < length self.now) × (slice_index_or self.now i false ≡ true) × ((k : ℕ) → from ≤ k → k < i → slice_index_or self.now k false ≡ false)) }
         ensures none { IfNone result ((k : ℕ) → from ≤ k → k < length self.now → slice_index_or self.now k false ≡ false) }
     {
+        let start = from.max(self.low);
+        self.first_behind(start)
+    }
+
+    /// The same without the use of `low`.
+    fn first_behind(&self, from: usize) -> Option<usize>
+        ensures found { IfSome result (λ i. (from ≤ i) × (i < length self.now) × (slice_index_or self.now i false ≡ true) × ((k : ℕ) → from ≤ k → k < i → slice_index_or self.now k false ≡ false)) }
+        ensures none { IfNone result ((k : ℕ) → from ≤ k → k < length self.now → slice_index_or self.now k false ≡ false) }
+    {
         if from >= self.bound {
             return None;
         }
@@ -66,6 +79,21 @@ impl NumberSet {
         }
         let there = self.used.first_from(here + 1)?;
         Some(64 * there + lowest_bit(self.words[there]) as usize)
+    }
+}
+
+/// What no member is below once a number is put in or taken out.
+fn lowered(low: usize, i: usize, is_in: bool) -> usize
+    requires { i < usize.MAX }
+    ensures others { (k : ℕ) → k < result → k ≢ i → k < low }
+    ensures here { is_in ≡ true → result ≤ i }
+{
+    if is_in {
+        low.min(i)
+    } else if low == i {
+        i + 1
+    } else {
+        low
     }
 }
 

@@ -2,8 +2,8 @@ use Rattle.std.proofs.Common.{length}
 use Rattle.sc_check.proofs.LineLemmas.{RegionsRead}
 use Rattle.sc_check.proofs.text_reader.take_regions.Given as goal
 
-abbrev pub invariant-loop-step : goal.invariant-loop-step
-invariant-loop-step l = RegionsRead l.gates l.text l.step l.rest
+abbrev pub invariant-loop-region : goal.invariant-loop-region
+invariant-loop-region l = RegionsRead l.gates l.text l.found.items l.rest
 
-abbrev pub decreases-loop-step : goal.decreases-loop-step
-decreases-loop-step l = length l.rest
+abbrev pub decreases-loop-region : goal.decreases-loop-region
+decreases-loop-region l = length l.rest
