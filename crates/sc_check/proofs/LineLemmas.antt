@@ -142,7 +142,7 @@ after_steps gates text more n number e h bad =
 body_begun : (a c : Bool) (b d : ℕ) → Body a b ≡ Body c d → a ≡ c
 body_begun a c b d h = cc
 
-body_left : (a c : Bool) (b d : ℕ) → Body a b ≡ Body c d → b ≡ d
+pub body_left : (a c : Bool) (b d : ℕ) → Body a b ≡ Body c d → b ≡ d
 body_left a c b d h = cc
 
 -- So many steps are read of a text after its five first lines, and the next line has this number.
