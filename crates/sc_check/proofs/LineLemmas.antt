@@ -5,7 +5,7 @@ use Rattle.std.proofs.lemmas.Bool.{false≢true}
 use Rattle.std.proofs.lemmas.List.Concat.{flat_map-append}
 use Rattle.std.proofs.lemmas.List.Elements.{All-append}
 use Rattle.std.proofs.Common.{get_or}
-use Rattle.sc_base.specs.Lines.{IsLine, joined, NeverBreaks, ReadTo}
+use Rattle.sc_base.specs.Lines.{IsLine, joined, ReadTo}
 use Rattle.sc_base.proofs.FeedLemmas.{NoFeed, no_feed_nil, no_feed_more, no_feed-append, no_feed_from_test, no_feed_decimal, line_from, number_line-IsLine}
 use Rattle.sc_base.proofs.TextLines.{read_nothing, read_more, read_short}
 use Rattle.sc_gate.specs.Lines.{number_line}
@@ -142,7 +142,7 @@ after_steps gates text more n number e h bad =
 body_begun : (a c : Bool) (b d : ℕ) → Body a b ≡ Body c d → a ≡ c
 body_begun a c b d h = cc
 
-body_left : (a c : Bool) (b d : ℕ) → Body a b ≡ Body c d → b ≡ d
+pub body_left : (a c : Bool) (b d : ℕ) → Body a b ≡ Body c d → b ≡ d
 body_left a c b d h = cc
 
 -- So many steps are read of a text after its five first lines, and the next line has this number.

@@ -1,16 +1,15 @@
 -- A text in the grammar has no bad line, and is that of one schedule; a text has one first bad line.
-use Rattle.std.proofs.Common.{◌≡◌, ◌≢◌, ℕ, suc, ◌+◌, ◌<◌, ◌≤◌, ◌^◌, Bool, true, false, List, [], ◌∷◌, ◌++◌, length, map, refl, sym, ap, ◌∙◌, subst, arith, inl, inr, append_assoc, append-nil}
+use Rattle.std.proofs.Common.{◌≡◌, ℕ, suc, ◌+◌, ◌<◌, ◌≤◌, ◌^◌, Bool, true, false, List, [], ◌∷◌, ◌++◌, length, refl, sym, ap, ◌∙◌, subst, arith, inl, inr, append_assoc}
 use Rattle.std.specs.Prelude.{codes, All, flat_map, decimal}
-use Rattle.std.proofs.lemmas.List.Concat.{flat_map-append}
 use Rattle.sc_base.specs.Lines.{NeverBreaks, ReadTo, IsReadWhole, LeadsOneWay}
 use Rattle.sc_base.proofs.TextLines.{read_nothing, read_more, read_whole, whole_not_bad, one_bad}
 use Rattle.sc_gate.specs.Lines.{number_line}
 use Rattle.sc_sched.specs.declared.plan.Plan.{Plan}
 use Rattle.sc_sched.specs.Legal.{Region, Step}
-use Rattle.sc_sched.specs.Text.{after_spaces, region_line, step_text, schedule_text, IsSize, IsWritable, HasText, IsTextOf, Stage, Title, Regions, Width, Gates, Steps, Body, Over, InPlace, IsOver, IsBadLine}
+use Rattle.sc_sched.specs.Text.{after_spaces, region_line, step_text, schedule_text, IsWritable, IsTextOf, Stage, Title, Regions, Width, Gates, Steps, Body, Over, InPlace, IsOver, IsBadLine}
 use Rattle.sc_base.proofs.NumeralLemmas.{head_is, tail_is, append_cancel, number_unique, number_line_one_way}
 use Rattle.sc_check.proofs.ReaderLemmas.{after_ends, region_parts}
-use Rattle.sc_check.proofs.LineLemmas.{title_is_line, step_is_line, end_is_line, regions_is_line, width_is_line, gates_is_line, steps_is_line, regions_read}
+use Rattle.sc_check.proofs.LineLemmas.{title_is_line, step_is_line, end_is_line, regions_is_line, width_is_line, gates_is_line, steps_is_line, regions_read, body_left}
 
 positions_same : (gates : ℕ) (xs ys : Region) (more after : List ℕ) → gates < 2 ^ 64 → All (λ x. x < gates) xs → All (λ x. x < gates) ys → after_spaces xs ++ 10 ∷ more ≡ after_spaces ys ++ 10 ∷ after → (xs ≡ ys) × (more ≡ after)
 positions_same gates [] [] more after g a b h = (refl, tail_is 10 10 more after h)
@@ -100,9 +99,6 @@ one_schedule_of gates text s t g p q =
 heads_apart : (line : List ℕ) (c d : ℕ) (cs ds : List ℕ) → line ≡ c ∷ cs → line ≡ d ∷ ds → (c ≡ d → ⊥) → ⊥
 heads_apart line c d cs ds e f apart = apart (head_is c d cs ds (sym e ∙ f))
 
-left_same : (a c : Bool) (b d : ℕ) → Body a b ≡ Body c d → b ≡ d
-left_same a c b d h = cc
-
 steps_one : (line : List ℕ) (a b : Stage) → InPlace 0 Steps line a → InPlace 0 Steps line b → a ≡ b
 steps_one line a b p q =
     let m : p.number ≤ 4294967295 = p.allowed in
@@ -112,7 +108,7 @@ steps_one line a b p q =
 
 body_one : (gates : ℕ) (begun : Bool) (left : ℕ) (line : List ℕ) (a b : Stage) → InPlace gates (Body begun left) line a → InPlace gates (Body begun left) line b → a ≡ b
 body_one gates begun left line a b (inl p) (inl q) =
-    let e : suc p.left ≡ suc q.left = left_same p.begun q.begun (suc p.left) (suc q.left) (sym p.stage_is ∙ q.stage_is) in
+    let e : suc p.left ≡ suc q.left = body_left p.begun q.begun (suc p.left) (suc q.left) (sym p.stage_is ∙ q.stage_is) in
     let f : p.left ≡ q.left = omega (arith, e) in
     p.next_is ∙ (ap (Body true) f ∙ sym q.next_is)
 body_one gates begun left line a b (inl p) (inr (inl q)) = absurd (heads_apart line 115 114 _ _ p.line_is q.line_is (λ e. omega (arith, e)))

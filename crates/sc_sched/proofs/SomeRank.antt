@@ -1,5 +1,5 @@
 -- Every gate of a list has a rank, so there is a schedule by ranks.
-use Rattle.std.proofs.Common.{◌≡◌, ℕ, ◌<◌, ◌≤◌, Bool, List, refl, arith, length}
+use Rattle.std.proofs.Common.{ℕ, ◌≤◌, Bool, List, refl, arith}
 use Rattle.sc_gate.specs.declared.gate.Gate.{Gate}
 use Rattle.sc_gate.specs.Heights.{height_at, through_at}
 use Rattle.sc_sched.specs.declared.order.Rank.{Rank}

@@ -1,5 +1,5 @@
 -- Schedule texts, and the first line of a text that is not in its place.
-use Rattle.std.specs.Prelude.{◌≡◌, ℕ, suc, ◌<◌, ◌≤◌, Bool, true, false, List, [], ◌∷◌, ◌++◌, length, codes, decimal, flat_map, All, ◌⊎◌}
+use Rattle.std.specs.Prelude.{◌≡◌, ℕ, suc, ◌<◌, ◌≤◌, Bool, true, false, List, ◌∷◌, ◌++◌, length, codes, decimal, flat_map, All, ◌⊎◌}
 use Rattle.sc_base.specs.Lines.{NeverBreaks, IsFirstBad}
 use Rattle.sc_gate.specs.Lines.{number_line}
 use Rattle.sc_sched.specs.declared.plan.Plan.{Plan}

@@ -45,18 +45,13 @@ impl KindTable {
         }
     }
 
-    fn get(&self, kind: &Kind) -> Option<u32>
-        ensures { result ≡ number_of self.now kind.now }
-    {
-        self.numbers.get(&key(kind)).copied()
-    }
-
-    /// Gives the kind this number. After `Memory` the table is of no use.
-    fn put(&mut self, kind: &Kind, number: u32) -> Result<(), Memory>
-        ensures { OnOk result ((other : KindValue) → number_of self.new other ≡ (if same_kind kind.now other then Some number else number_of self.old other)) }
+    /// Gives the kind this number, and answers the one that it had. After `Memory` the table is of no use.
+    fn put(&mut self, kind: &Kind, number: u32) -> Result<Option<u32>, Memory>
+        ensures old { IfOk result (λ known. known ≡ number_of self.old kind.now) }
+        ensures table { OnOk result ((other : KindValue) → number_of self.new other ≡ (if same_kind kind.now other then Some number else number_of self.old other)) }
     {
         match self.numbers.insert(key(kind), number) {
-            Ok(_) => Ok(()),
+            Ok(known) => Ok(known),
             Err(_) => Err(Memory),
         }
     }
@@ -69,22 +64,21 @@ pub(crate) struct Kinds {
     pub room: Vec<u32>,
 }
 
-/// The number of a kind; one that has none gets the next.
+/// The number of a kind; one that has none gets the next. A new kind is looked for once: the next number is put in, and
+/// the old one put back where there is one.
 fn number(table: &mut KindTable, room: &mut Vec<u32>, kind: &Kind, d: u32) -> Result<u32, Memory>
     requires { length room.old.items ≤ 4194304 }
     ensures known { IfOk result (λ n. MatchOption (number_of table.old kind.now) (n ≡ length room.old.items) (λ m. n ≡ m)) }
     ensures table { IfOk result (λ n. (other : KindValue) → number_of table.new other ≡ (if same_kind kind.now other then Some n else number_of table.old other)) }
     ensures room { OnOk result (MatchOption (number_of table.old kind.now) (room.new.items ≡ room.old.items ++ d / qubits_of (name_of kind.now) ∷ []) (λ m. room.new.items ≡ room.old.items)) }
 {
-    if let Some(number) = table.get(kind) {
-        return Ok(number);
-    }
-    let number = room.len() as u32;
-    table.put(kind, number)?;
-    let Ok(()) = room.push(d / arity(kind)) else {
-        return Err(Memory);
+    let next = room.len() as u32;
+    let Some(known) = table.put(kind, next)? else {
+        room.push(d / arity(kind))?;
+        return Ok(next);
     };
-    Ok(number)
+    table.put(kind, known)?;
+    Ok(known)
 }
 
 /// Numbers the kinds in the order of their first gates.

@@ -1,4 +1,4 @@
-use Rattle.std.proofs.Common.{◌≡◌, ℕ, suc, ◌+◌, ◌-◌, ◌*◌, ◌/◌, ◌%◌, ◌<◌, ◌≤◌, true, false, length, subst, arith, rules}
+use Rattle.std.proofs.Common.{◌≡◌, ℕ, suc, ◌+◌, ◌-◌, ◌*◌, ◌/◌, ◌%◌, ◌<◌, ◌≤◌, false, length, subst, arith, rules}
 use Rattle.sc_sched.specs.NumberTree.{node}
 use Rattle.sc_sched.proofs.NumberTrees.{half, half_height, IsNear, near_start, near_inside, near_right, near_up, near_down, set_right, near_end}
 use Rattle.sc_sched.proofs.numbers.first_leaf.Goals as goal

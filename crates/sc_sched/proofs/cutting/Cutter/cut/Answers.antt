@@ -1,10 +1,10 @@
-use Rattle.std.proofs.Common.{◌≡◌, ◌++◌, [], ℕ, true, ◌<◌, List, length, slice_index, refl, sym, ap, ◌∙◌, rules}
+use Rattle.std.proofs.Common.{◌≡◌, ◌++◌, ℕ, List, length, slice_index, sym, ap, ◌∙◌}
 use Rattle.std.proofs.lemmas.List.Sorted.{IsNonDecreasingBy-from_sort}
 use Rattle.sc_sched.specs.Rounds.{stands}
 use Rattle.sc_sched.specs.Board.{layout_of}
 use Rattle.sc_sched.specs.Groups.{IsGrouped}
 use Rattle.sc_sched.proofs.Free.{fun_same}
-use Rattle.sc_sched.proofs.Grouping.{grouped_start, kinds_inside, cut_is, stands_moved}
+use Rattle.sc_sched.proofs.Grouping.{cut_is, stands_moved}
 use Rattle.sc_sched.proofs.cutting.Cutter.cut.Goals as goal
 
 pub gather-requires-clause-ascending : goal.gather-requires-clause-ascending

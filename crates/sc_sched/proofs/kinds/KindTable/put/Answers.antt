@@ -22,7 +22,7 @@ parts_same : (a b i : ℕ) (v w j : ℤ) → a ≡ b → v ≡ w → (x y : Opti
 parts_same a b i v w j e f x y =
     ap (λ (z : Bool). cond z x y) (key_same a i v j) ∙ (ap (λ (z : ℕ). cond (z == i && int_eq v j) x y) e ∙ ap (λ (z : ℤ). cond (b == i && int_eq z j) x y) f)
 
-pub returns-in-Ok : goal.returns-in-Ok
-returns-in-Ok c = λ other.
+pub returns-in-Ok-clause-table : goal.returns-in-Ok-clause-table
+returns-in-Ok-clause-table c = λ other.
     c.in-Ok.ensures.updates.0 (place_of (name_of other), value_of other)
     ∙ parts_same c.key.result.0 (place_of (name_of c.args.kind.now)) (place_of (name_of other)) c.key.result.1 (value_of c.args.kind.now) (value_of other) c.key.ensures.name c.key.ensures.value (Some c.args.number) (number_of c.args.self.now other)

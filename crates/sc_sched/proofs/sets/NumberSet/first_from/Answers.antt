@@ -1,4 +1,4 @@
-use Rattle.std.proofs.Common.{◌≡◌, ℕ, ◌<◌, ◌≤◌, ◌∙◌, subst, arith, Bool, List, false}
+use Rattle.std.proofs.Common.{◌≡◌, ◌∙◌, subst, arith, Bool, List, false}
 use Rattle.std.specs.Prelude.{slice_index_or}
 use Rattle.sc_sched.specs.WordSets.{IsWordSet}
 use Rattle.sc_sched.proofs.WordLemmas.{member_at, first_sooner, none_sooner}
