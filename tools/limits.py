@@ -317,15 +317,15 @@ def slow_input(bench):
 
 
 def shrinking(bench):
-    """A file that is cut while it is read: any answer of its own, and no signal."""
+    """A file that is cut while it is read: the answer to what was read, where a zero byte may stand at the cut."""
     path, text = os.path.join(bench.folder, "a"), " " * 16777000 + main_of("")
     for turn in range(30):
         bench.put("a", text)
         cut = threading.Timer(turn * 0.001, os.truncate, (path, turn * 1000))
         cut.start()
-        answer = bench.run("count a")
+        status, fault = bench.run("count a")
         cut.join()
-        bench.see("a file that shrinks", answer, (0, ""), (1, "NoMain"))
+        bench.see("a file that shrinks", (status, fault.split(" ")[-1]), (0, ""), (1, "NoMain"), (1, "BadByte"))
 
 
 def deepest():
