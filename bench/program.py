@@ -10,6 +10,8 @@ import sys
 import tempfile
 from pathlib import Path
 
+from read import MOST, bodies
+
 TOP = Path(__file__).resolve().parent.parent
 GATES = 4194304
 
@@ -91,6 +93,9 @@ def run(program, words, folder):
 SOURCES = {"ten_million.scf": ten_million, "one_body.scf": one_body, "doubling.scf": lambda: doubling(120), "instances.scf": instances, "tokens.scf": tokens,
            "many.scf": many_gates, "rows.scf": rows}
 
+# hierarchical texts of nearly 128 MiB
+TEXTS = {"toffoli.hier": "Toffoli q10000,q20000,q30000\n", "angle.hier": "Rz q0,0.500000000000\n", "short.hier": "X q0\n"}
+
 # each name, its words, and under which name its answer is kept for later ones
 CASES = [
     ("flat_ten_million", "flat ten_million.scf", None),
@@ -109,6 +114,9 @@ CASES = [
     ("cancel_many", "cancel many.scf", None),
     ("open_many", "open many.scf", "many.qasm"),
     ("reopen_many", "reopen many.qasm", None),
+    ("expand_toffoli", "expand toffoli.hier", None),
+    ("expand_angle", "expand angle.hier", None),
+    ("expand_short", "expand --limit 100000000 short.hier", None),
     ("drill", "drill 50000", None),
 ]
 
@@ -124,6 +132,9 @@ def main():
             (folder / name).write_text(source())
         if not words or "check_picked" in words:
             flat_list(folder)
+        for name, line in TEXTS.items():
+            if not words or any(name in asked for case, asked, _ in CASES if case in words):
+                (folder / name).write_text(bodies(line, MOST))
         for name, line, kept in CASES:
             if words and name not in words:
                 continue
