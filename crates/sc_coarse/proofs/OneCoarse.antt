@@ -1,5 +1,5 @@
 -- A deck has one list of coarse schedules, and where no gate item is too wide it has one.
-use Rattle.std.proofs.Common.{◌≡◌, ℕ, zero, suc, ◌+◌, ◌<◌, ◌≤◌, Bool, Option, Some, List, [], ◌∷◌, ◌++◌, length, map, slice_get, refl, sym, ap, ◌∙◌, subst, arith}
+use Rattle.std.proofs.Common.{◌≡◌, ℕ, zero, suc, ◌+◌, ◌≤◌, Bool, Some, List, [], ◌∷◌, ◌++◌, length, map, slice_get, refl, sym, ap, ◌∙◌, subst, arith}
 use Rattle.sc_gate.specs.declared.gate.Gate.{Gate}
 use Rattle.sc_deck.specs.declared.item.Item.{Item}
 use Rattle.sc_deck.specs.declared.item.Item.TheVariants as item
@@ -14,7 +14,7 @@ use Rattle.sc_coarse.specs.declared.block.Block.{Block}
 use Rattle.sc_coarse.specs.declared.block.Block.TheVariants as block
 use Rattle.sc_coarse.specs.declared.coarse.Instance.{Instance}
 use Rattle.sc_coarse.specs.CoarseDecks.{AreCoarse}
-use Rattle.sc_coarse.specs.CoarseRule.{Part, Stretch, Single, with_plain, parts_from, parts_of, ones, item_step, AreStretchBlocks, ArePartBlocks, AreBlocks, IsCoarseRule, all_turn_blocks}
+use Rattle.sc_coarse.specs.CoarseRule.{Part, Stretch, Single, with_plain, parts_from, parts_of, ones, item_step, ArePartBlocks, AreBlocks, IsCoarseRule, all_turn_blocks}
 use Rattle.sc_coarse.specs.CoarseSchedules.{TurnBlock}
 use Rattle.sc_coarse.specs.Expansions.{schedules_of, coarse_expansions, steps_at, expanded}
 use Rattle.sc_coarse.specs.Instances.{blocks_of}

@@ -1,11 +1,10 @@
 -- The stages of `coarse`: why they refuse, that there is one answer, and that there is one.
-use Rattle.std.proofs.Common.{◌≡◌, ℕ, ◌≤◌, Bool, true, false, List, length, Option, Some, None, slice_get, Ok, Err, Result, refl, sym, ap, ◌∙◌, arith, inl, inr}
+use Rattle.std.proofs.Common.{◌≡◌, ℕ, ◌≤◌, Bool, true, false, List, Ok, Err, refl, sym, ap, ◌∙◌, arith}
 use Rattle.std.proofs.lemmas.Bool.{false≢true}
 use Rattle.sc_coarse.proofs.OneCoarse.{only_coarse, some_coarse}
 use Rattle.sc_coarse.proofs.WideAndLong.{one_wide}
 use Rattle.sc_coarse.specs.CoarseDecks.{AreCoarse}
 use Rattle.sc_coarse.specs.Refusals.{deck_too_large, IsFirstWide, NoneIsWide}
-use Rattle.sc_coarse.specs.declared.coarse.Instance.{Instance}
 use Rattle.sc_coarse.specs.declared.make.CoarseFault.{CoarseFault}
 use Rattle.sc_coarse.specs.declared.make.CoarseFault.TheVariants as coarsening
 use Rattle.sc_deck.specs.Modules.{Module}
@@ -18,10 +17,9 @@ use Rattle.sc_top.specs.Scheduled.{order_by}
 use Rattle.sc_top.specs.Stages.{stops, goes, HasOne, Found, fault_of_refusal}
 use Rattle.sc_top.specs.declared.coarsened.Coarsened.{Coarsened}
 use Rattle.sc_top.specs.declared.fault.Reason.TheVariants as reason
-use Rattle.sc_top.specs.declared.fault.Refusal.{Refusal}
 use Rattle.sc_top.proofs.ExpansionLemmas.{one_counted}
 use Rattle.sc_top.proofs.ModeLemmas.{yields_one, lawful}
-use Rattle.sc_top.proofs.StageLemmas.{refused, given, then_one, is_one}
+use Rattle.sc_top.proofs.StageLemmas.{refused, then_one, is_one}
 
 -- ---- why they refuse
 

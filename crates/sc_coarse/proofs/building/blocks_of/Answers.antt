@@ -1,9 +1,9 @@
-use Rattle.std.proofs.Common.{◌≡◌, ℕ, ◌+◌, ◌≤◌, ◌∷◌, ◌∙◌, false, List, ap, length, sym, subst, drop}
+use Rattle.std.proofs.Common.{ℕ, ◌+◌, ◌≤◌, ◌∙◌, List, ap, length, sym, subst, drop}
 use Rattle.sc_deck.specs.declared.item.Item.{Item}
 use Rattle.sc_coarse.specs.Building.{IsBuilt}
 use Rattle.sc_coarse.specs.CoarseRule.{parts_from, parts_of}
 use Rattle.sc_coarse.proofs.Built.{drop_at}
-use Rattle.sc_coarse.proofs.WideAndLong.{long_after, long_next, few_after, none_long, few_items, width_here}
+use Rattle.sc_coarse.proofs.WideAndLong.{long_after, long_next, width_here}
 use Rattle.sc_coarse.proofs.building.blocks_of.Goals as goal
 
 pub add_item-requires-clause-narrow : goal.add_item-requires-clause-narrow
