@@ -3,8 +3,7 @@ use Rattle.std.proofs.Common.{◌≡◌, ℕ, zero, suc, ◌+◌, ◌<◌, ◌�
 use Rattle.std.specs.Prelude.{pos, nat_le}
 use Rattle.std.proofs.lemmas.Bool.Decides.{nat_tests}
 use Rattle.sc_base.specs.declared.Class.{Class}
-use Rattle.sc_base.specs.declared.Class.TheVariants.{Q, C}
-use Rattle.sc_gate.specs.Numbers.{Numbers, number_of, with_more, both}
+use Rattle.sc_gate.specs.Numbers.{number_of, with_more, both}
 use Rattle.sc_syntax.specs.declared.Name.{Name}
 use Rattle.sc_deck.specs.declared.item.Item.TheVariants as item
 use Rattle.sc_deck.specs.Bodies.{Contents, wires_of, with_item}

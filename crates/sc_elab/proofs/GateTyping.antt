@@ -1,15 +1,13 @@
 -- The gates of a checked source are well formed, and their wires are there.
-use Rattle.std.proofs.Common.{◌≡◌, ◌≢◌, inl, inr, ℕ, suc, ◌≤◌, Bool, true, false, List, [], ◌∷◌, ◌++◌, length, map, Option, None, Result, Ok, Err, refl, sym, ap, ◌∙◌, subst, arith}
-use Rattle.std.specs.Prelude.{nat_eq, replicate, slice_get, IfOk}
+use Rattle.std.proofs.Common.{◌≡◌, inl, inr, ℕ, suc, true, List, [], ◌∷◌, ◌++◌, length, map, Option, None, Result, Ok, Err, refl, sym, ap, ◌∙◌, subst, arith}
+use Rattle.std.specs.Prelude.{replicate, slice_get, IfOk}
 use Rattle.sc_base.specs.declared.Class.{Class}
 use Rattle.sc_base.specs.declared.Class.TheVariants.{Q, C}
 use Rattle.sc_base.specs.declared.GateName.{GateName}
-use Rattle.sc_base.specs.declared.GateName.TheVariants as gate
 use Rattle.sc_gate.specs.declared.gate.Wire.{Wire}
 use Rattle.sc_gate.specs.declared.gate.Kind.{Kind}
-use Rattle.sc_gate.specs.declared.gate.Kind.TheVariants as kind
 use Rattle.sc_gate.specs.declared.gate.Gate.{Gate}
-use Rattle.sc_gate.specs.Gates.{name_of, qubits_of, is_measurement, class_of, SuitsName, AreDistinct}
+use Rattle.sc_gate.specs.Gates.{name_of, qubits_of, is_measurement, class_of, AreDistinct}
 use Rattle.sc_gate.specs.Numbers.{Numbers, AreThere}
 use Rattle.sc_deck.specs.declared.key.Arg.{Arg}
 use Rattle.sc_deck.specs.declared.key.Arg.TheVariants as arg
@@ -26,7 +24,7 @@ use Rattle.sc_value.specs.declared.Value.TheVariants as v
 use Rattle.sc_meaning.specs.declared.fault.ElabFault.{ElabFault}
 use Rattle.sc_meaning.specs.declared.want.Want.{Want}
 use Rattle.sc_meaning.specs.declared.want.Want.TheVariants as want
-use Rattle.sc_meaning.specs.Arguments.{Passed, angle, start, kind_of, gate_on, gate_wants, start_wants, wires_of, pass_all, distinct_after, called_gate}
+use Rattle.sc_meaning.specs.Arguments.{Passed, kind_of, gate_on, gate_wants, wires_of, pass_all, distinct_after, called_gate}
 use Rattle.sc_elab.specs.Typings.{IsOf, IsOneOf, IsTyped, IsNumber, PassedFits, AllPassedFit}
 use Rattle.sc_meaning.specs.Kept.{IsArgOf}
 use Rattle.sc_meaning.specs.Run.{measured}

@@ -1,17 +1,16 @@
 -- The keys of a checked source: their arguments are wanted, their arrays have wires, and they have at most 65,536 wires.
-use Rattle.std.proofs.Common.{◌≡◌, ℕ, zero, suc, ◌+◌, ◌<◌, ◌≤◌, List, [], ◌∷◌, ◌++◌, length, get_or, map, refl, sym, ap, ◌∙◌, subst, arith}
-use Rattle.std.specs.Prelude.{replicate, flat_map, fold, All}
+use Rattle.std.proofs.Common.{◌≡◌, ℕ, List, [], ◌∷◌, ◌++◌, length, map, refl, sym, ap, ◌∙◌, subst}
+use Rattle.std.specs.Prelude.{replicate, flat_map, All}
 use Rattle.std.specs.List.{AllByRecursion}
-use Rattle.std.proofs.lemmas.List.{map-append, length-map}
+use Rattle.std.proofs.lemmas.List.{map-append}
 use Rattle.std.proofs.lemmas.List.Elements.{All-from_recursion}
 use Rattle.sc_base.specs.declared.Class.{Class}
-use Rattle.sc_base.specs.declared.Class.TheVariants.{Q, C}
 use Rattle.sc_gate.specs.declared.gate.Wire.{Wire}
-use Rattle.sc_gate.specs.Gates.{class_of, AreDistinct}
-use Rattle.sc_gate.specs.Numbers.{Numbers, number_of, both, no_wires, IsThere, AreThere}
+use Rattle.sc_gate.specs.Gates.{class_of}
+use Rattle.sc_gate.specs.Numbers.{Numbers, AreThere}
 use Rattle.sc_deck.specs.declared.key.Arg.{Arg}
 use Rattle.sc_deck.specs.declared.key.Arg.TheVariants as arg
-use Rattle.sc_deck.specs.Keys.{arg_classes, with_arg, HasLength}
+use Rattle.sc_deck.specs.Keys.{arg_classes, HasLength}
 use Rattle.sc_meaning.specs.declared.want.Want.{Want}
 use Rattle.sc_meaning.specs.declared.want.Want.TheVariants as want
 use Rattle.sc_meaning.specs.Arguments.{Passed, args_of, wires_of}

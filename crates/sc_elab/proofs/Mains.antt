@@ -9,7 +9,6 @@ use Rattle.sc_syntax.specs.declared.Param.{Param}
 use Rattle.sc_syntax.specs.declared.Part.{Part}
 use Rattle.sc_syntax.specs.declared.Part.TheVariants as part
 use Rattle.sc_syntax.specs.Alike.{pure_param, pure_part}
-use Rattle.sc_syntax.specs.Formed.{IsFormedPart}
 use Rattle.sc_deck.specs.declared.key.Key.{Key}
 use Rattle.sc_deck.specs.Keys.{HasLength, main_key}
 use Rattle.sc_word.specs.Typed.{TypedWords}
@@ -17,15 +16,14 @@ use Rattle.sc_types.specs.Accepted.{Taken, IsAcceptedPart, AreAccepted, IsAccept
 use Rattle.sc_types.specs.FirstParts.{has_name}
 use Rattle.sc_types.specs.Positions.{first_at}
 use Rattle.sc_types.specs.Statements.{part_name, named_wants}
-use Rattle.sc_types.specs.Typing.{IsTyped, AreTyped, TypedSource, part_at, typed_at}
+use Rattle.sc_types.specs.Typing.{IsTyped, AreTyped, TypedSource, part_at}
 use Rattle.sc_meaning.specs.Arguments.{want_of}
 use Rattle.sc_meaning.specs.Definitions.{Definition, definition}
 use Rattle.sc_meaning.specs.Programs.{program_of}
 use Rattle.sc_meaning.proofs.Written.{source_named}
 use Rattle.sc_elab.specs.Sources.{IsSound}
 use Rattle.sc_elab.specs.Typings.{ArgsFit, Takes, IsEntering}
-use Rattle.sc_elab.proofs.Adding.{got}
-use Rattle.sc_elab.proofs.Finding.{standing, definition_at, found, module_found}
+use Rattle.sc_elab.proofs.Finding.{module_found}
 
 -- ---- its parts are typed
 

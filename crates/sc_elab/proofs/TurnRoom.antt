@@ -1,5 +1,5 @@
 -- The last item of a body never has too many turns: each step that is left has room for 64 more.
-use Rattle.std.proofs.Common.{◌≡◌, suc, ◌+◌, ◌*◌, ◌<◌, ◌≤◌, length, Option, Some, None, Result, Ok, Err, refl, ap, arith}
+use Rattle.std.proofs.Common.{◌≡◌, suc, ◌+◌, ◌*◌, ◌<◌, ◌≤◌, Option, Some, None, Result, Ok, Err, refl, ap, arith}
 use Rattle.std.specs.Prelude.{OnOk, IfOk}
 use Rattle.sc_base.specs.declared.Place.{Place}
 use Rattle.sc_gate.specs.declared.gate.Gate.{Gate}
