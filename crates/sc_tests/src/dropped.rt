@@ -1,5 +1,5 @@
 //! Probes are dropped, whatever the answer, and only those that are there tell a line.
-use crate::requests::{REQUESTS, carry_with, failing_sink, shelf, sink};
+use crate::requests::{REFUSED, REQUESTS, carry_with, failing_sink, shelf, sink};
 use sc_base::{MemSink, Memory, Text};
 use sc_gate::Gate;
 use sc_probe::{KindsProbe, Probe, ReachProbe, Rule};
@@ -71,17 +71,6 @@ fn drops(alloc: Global, request: &[&str], call: u64) -> Result<(u8, u32), Fail> 
     Ok((status, drops.get()))
 }
 
-/// Requests that are refused, with the status.
-const REFUSED: [(&[&str], u8); 7] = [
-    (&["flat"], 2),
-    (&["flat", "none"], 3),
-    (&["flat", "--kinds", "e"], 1),
-    (&["flat", "--kinds", "--limit", "1", "p"], 5),
-    (&["cancel", "--kinds", "h"], 1),
-    (&["schedule", "--regions", "1", "--width", "1", "p"], 2),
-    (&["expand", "p"], 1),
-];
-
 #[test]
 fn probes_are_dropped_by_each_mode(rt: HostRuntime) -> Result<(), Fail> {
     for (request, _) in REQUESTS {
@@ -98,7 +87,7 @@ fn probes_are_dropped_by_each_mode(rt: HostRuntime) -> Result<(), Fail> {
 
 #[test]
 fn probes_are_dropped_by_each_refusal(rt: HostRuntime) -> Result<(), Fail> {
-    for (request, status) in REFUSED {
+    for (request, _, status) in REFUSED {
         assert_eq!(rt;
             drops(rt.alloc(), request, 1_000_000)?,
             (status, 2),
@@ -108,7 +97,7 @@ fn probes_are_dropped_by_each_refusal(rt: HostRuntime) -> Result<(), Fail> {
     Ok(())
 }
 
-/// What stands behind the last gate line of `--kinds`, for so many probes of its rule.
+/// What `flat` with two probes asked for writes, where so many of one rule are handed in and none of the other.
 fn told(alloc: Global, count: u32) -> Result<MemSink, Fail> {
     let mut probes: Vec<Box<dyn Probe>> = Vec::new(alloc);
     for _ in 0..count {

@@ -1,7 +1,7 @@
 //! Requests over a shelf, an output or a sink of fault lines that fails at any of its calls.
 ghost use Rattle.std.specs.Prelude.{◌≡◌, false, IfOk};
 
-use crate::requests::{REQUESTS, carry, failing_sink, shelf, sink};
+use crate::requests::{REFUSED, REQUESTS, carry, failing_sink, shelf, sink};
 use sc_base::{Failed, MemSink, Sink};
 use std::alloc::Global;
 use std::process::Abort;
@@ -126,15 +126,6 @@ fn an_output_fails_at_any_call(rt: HostRuntime) -> Result<(), Fail> {
     Ok(())
 }
 
-/// Requests that are refused, with the fault line and the status.
-const REFUSED: [(&[&str], &str, u8); 5] = [
-    (&["flat"], "scaff: Usage\n", 2),
-    (&["flat", "none"], "scaff: ReadFault\n", 3),
-    (&["flat", "e"], "scaff: NoMain\n", 1),
-    (&["expand", "p"], "scaff: line 1: BadQasm\n", 1),
-    (&["flat", "--limit", "1", "p"], "scaff: TooManyGates\n", 5),
-];
-
 #[test]
 fn a_sink_of_fault_lines_fails_at_any_call(rt: HostRuntime) -> Result<(), Fail> {
     let alloc = rt.alloc();
@@ -144,6 +135,7 @@ fn a_sink_of_fault_lines_fails_at_any_call(rt: HostRuntime) -> Result<(), Fail> 
             let status = carry(alloc, request, &mut shelf(alloc)?, &mut out, &mut err)?;
             assert_eq!(rt; status, want, "{request:?} at {call}");
             assert!(rt; line.as_bytes().starts_with(err.sink.written()));
+            assert!(rt; err.calls <= call as u64);
             assert_eq!(rt; err.ended(), err.calls < call as u64);
             assert_eq!(rt; err.sink.written().len(), line.len().min(call - 1));
             assert_eq!(rt; out.written(), b"".as_slice());

@@ -41,6 +41,25 @@ pub const REQUESTS: [(&[&str], u64); 10] = [
     (&["cancel", "--kinds", "t"], 1),
 ];
 
+/// Requests that are refused, with the fault line and the status.
+pub const REFUSED: [(&[&str], &str, u8); 7] = [
+    (&["flat"], "scaff: Usage\n", 2),
+    (&["flat", "none"], "scaff: ReadFault\n", 3),
+    (&["flat", "--kinds", "e"], "scaff: NoMain\n", 1),
+    (&["cancel", "--kinds", "h"], "scaff: 1:1: Syntax\n", 1),
+    (&["expand", "p"], "scaff: line 1: BadQasm\n", 1),
+    (
+        &["flat", "--kinds", "--limit", "1", "p"],
+        "scaff: TooManyGates\n",
+        5,
+    ),
+    (
+        &["schedule", "--regions", "1", "--width", "1", "p"],
+        "scaff: Narrow 1\n",
+        2,
+    ),
+];
+
 /// The words as the top call takes them.
 pub fn words(alloc: Global, texts: &[&str]) -> Result<Vec<RcStr>, Fail> {
     let mut words = Vec::new(alloc);
