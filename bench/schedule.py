@@ -4,8 +4,8 @@ with the peak memory.
 
 usage: bench/schedule.py [CASE..]
 Builds a program in a folder that it drops again, on copies of sc_base, sc_gate, sc_sched and sc_check, with what is built of
-them. The cases are the names in CASES and TEXTS, by default all of them. `gates` makes the gates and no schedule: what it takes is part of each other case.
-A case of a text makes the text first; one that ends with `made` does no more.
+them. The cases are the names in CASES and TEXTS, by default all of them. `gates` makes the gates and no schedule: what it
+takes is part of each other case. A case of a text makes the text first; one that ends with `made` does no more.
 """
 import shutil, sys, tempfile
 from pathlib import Path
