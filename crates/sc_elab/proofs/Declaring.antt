@@ -15,12 +15,12 @@ use Rattle.sc_meaning.specs.declared.choice.Choice.{Choice}
 use Rattle.sc_meaning.specs.declared.fault.ElabFault.TheVariants.{TooWide}
 use Rattle.sc_elab.specs.declared.frame.Frame.{Frame}
 use Rattle.sc_elab.specs.Folding.{written}
-use Rattle.sc_elab.specs.Frames.{view, names_of, Runs, IsRefused}
+use Rattle.sc_elab.specs.Frames.{view, names_of, Runs}
 use Rattle.sc_meaning.specs.Outcomes.{Outcome, Done, Stopped}
 use Rattle.sc_meaning.specs.Run.{make_wires}
 use Rattle.sc_meaning.specs.States.{State, with_wires, with_fresh}
 use Rattle.sc_elab.proofs.Folding.{written_more}
-use Rattle.sc_elab.proofs.Going.{runs_fresh, runs_from, refused_from, refused_at}
+use Rattle.sc_elab.proofs.Going.{runs_fresh, runs_from}
 
 -- a body with fresh wires has as many more
 pub wires_more : (body : Contents) (c : Class) (n : ℕ) → wires_of (with_item body (item.Fresh c n)) ≡ with_more c n (wires_of body)

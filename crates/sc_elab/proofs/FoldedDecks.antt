@@ -12,12 +12,11 @@ use Rattle.sc_deck.specs.declared.item.Item.TheVariants as item
 use Rattle.sc_deck.specs.declared.key.Key.{Key}
 use Rattle.sc_deck.specs.Decks.{CallFits, ItemCallFits, CallsFit}
 use Rattle.sc_deck.specs.Keys.{param_classes, same_key}
-use Rattle.sc_deck.specs.Modules.{Module, key_of, greatest_called, heights_of, is_called}
+use Rattle.sc_deck.specs.Modules.{Module, key_of, heights_of}
 use Rattle.sc_deck.specs.Turns.{written_out, folded, folded_modules}
-use Rattle.sc_deck.proofs.FoldLaws.{heights_of-folded, is_called-folded}
+use Rattle.sc_deck.proofs.FoldLaws.{heights_of-folded}
 use Rattle.sc_meaning.specs.Instances.{with_module, number_in_deck}
 use Rattle.sc_elab.specs.Folding.{written, written_module, written_modules, IsFolded, AreFolded}
-use Rattle.sc_elab.proofs.Folding.{stands_for}
 
 -- ---- keys and numbers
 

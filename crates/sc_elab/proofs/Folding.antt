@@ -5,11 +5,9 @@ use Rattle.std.specs.Option.{option_map_or}
 use Rattle.std.proofs.lemmas.Grind.{flat_map-append}
 use Rattle.sc_base.specs.declared.Class.{Class}
 use Rattle.sc_gate.specs.declared.gate.Gate.{Gate}
-use Rattle.sc_gate.specs.Numbers.{Numbers}
 use Rattle.sc_gate.specs.SameGates.{same_gate}
 use Rattle.sc_deck.specs.declared.item.Item.{Item}
 use Rattle.sc_deck.specs.declared.item.Item.TheVariants as item
-use Rattle.sc_deck.specs.Bodies.{after_items}
 use Rattle.sc_deck.specs.Turns.{written_out, has_turns, turns_of, last_turns, same_call, joined, with_folded, folded}
 use Rattle.sc_deck.proofs.FoldLaws.{StandsFor, folded-stands}
 use Rattle.sc_deck.proofs.TurnLaws.{folded-written_out, folded-push}
