@@ -99,7 +99,8 @@ def whole_sources():
     yield "gates written flat", "flat a", TENFOLD + main_of("qbit q; t(q, 7); X(q);"), 5, "TooManyGates"
     yield "gates written flat", "flat --limit 15 a", main_of("qbit q[3]; Toffoli(q[0], q[1], q[2]);"), 0, ""
     yield "gates written flat", "flat --limit 14 a", main_of("qbit q[3]; Toffoli(q[0], q[1], q[2]);"), 5, "TooManyGates"
-    stretch = "qbit q[3]; for (int i = 0; i < 279620; i++) Toffoli(q[0], q[1], q[2]); X(q[0]); Y(q[0]); X(q[0]); Y(q[0]);"
+    twice = "{ Toffoli(q[0], q[1], q[2]); Toffoli(q[2], q[1], q[0]); }"  # no two neighbours are equal
+    stretch = f"qbit q[3]; for (int i = 0; i < 139810; i++) {twice} X(q[0]); Y(q[0]); X(q[0]); Y(q[0]);"
     yield "gates of a stretch", "coarse --regions 1 --width 3 a", main_of(stretch), 0, ""
     yield "gates of a stretch", "coarse --regions 1 --width 3 a", main_of(f"{stretch} X(q[0]);"), 5, "SchedTooLarge"
     for words in ("schedule --regions 1 --width 1 a", "open a", "cancel a"):
