@@ -63,7 +63,7 @@ STATUS_OF = {name: status for status, names in STATUS.items() for name in names.
 FAULT = re.compile(rb"scaff: (?:(\d+):(\d+): |line (\d+): )?([A-Za-z]+)((?: \d+){0,2})\n\Z")
 OWN = {  # the refusals of a mode behind those of a source
     "hier": "", "flat": "CountTooLarge TooManyWires TooManyGates", "count": "CountTooLarge",
-    "schedule": "CountTooLarge TooManyWires SchedTooLarge Narrow", "coarse": "CountTooLarge SchedTooLarge NarrowItem Unbuilt",
+    "schedule": "CountTooLarge TooManyWires SchedTooLarge Narrow", "coarse": "CountTooLarge SchedTooLarge NarrowItem",
     "open": "CountTooLarge TooManyWires SchedTooLarge", "cancel": "CountTooLarge TooManyWires SchedTooLarge",
 }
 PROBES = ["kinds", "burst", "window", "reach"]
@@ -195,7 +195,7 @@ class SourceCase:
     def check_refusal(self, mode, answer, hier, told):
         """A source that is refused is refused so by every mode; else a refusal is one of the mode's own."""
         if hier.status != 0:
-            must(answer.line == hier.line or answer.fault == "Unbuilt", f"{mode}: {answer.line!r}, and hier: {hier.line!r}")
+            must(answer.line == hier.line, f"{mode}: {answer.line!r}, and hier: {hier.line!r}")
             return
         must(answer.fault is None or answer.fault in OWN[mode].split(), f"{mode}: {answer.line!r} of an accepted source")
         want = by_numbers(mode, told)

@@ -209,8 +209,6 @@ class Bench:
     def see_limit(self, what, line, text, status, fault):
         """A request at a limit, in much and in little memory, with much and with little stack."""
         self.put("a", text)
-        if line.startswith("coarse") and self.run(line) == (1, "Unbuilt"):
-            return
         for limits in ({}, {"stack": 2 * MIB}, {"memory": 64 * MIB}, {"memory": 64 * MIB, "stack": 2 * MIB}):
             scarce = [(4, "Memory")] * ("memory" in limits)
             self.see(f"{what}: {line} {limits}", self.run(line, **limits), (status, fault), *scarce)
@@ -225,8 +223,6 @@ def outputs(bench):
     lines = ["hier a", "flat a", "flat --kinds a", "count a", "schedule --regions 1 --width 3 a", "expand h", "check f s", "drill 3", "open a",
              "reopen o", "cancel --kinds a", "coarse --regions 1 --width 3 a"]
     for line in lines:
-        if bench.run(line) == (1, "Unbuilt"):
-            continue
         with open("/dev/full", "wb") as full:
             bench.see(f"{line} > /dev/full", bench.run(line, full), (7, "WriteFault"))
         reader, writer = os.pipe()
