@@ -25,7 +25,7 @@ const OPENED: &str =
     "OPENQASM 2.0;\ninclude \"qelib1.inc\";\nqreg q[1];\ncreg u[1];\nh q[0];\nmeasure q[0] -> u[0];\n";
 
 /// A request of each mode that reads a text and writes one, and how many texts it reads.
-pub const REQUESTS: [(&[&str], u64); 10] = [
+pub const REQUESTS: [(&[&str], u64); 11] = [
     (&["hier", "t"], 1),
     (&["flat", "p"], 1),
     (
@@ -34,6 +34,7 @@ pub const REQUESTS: [(&[&str], u64); 10] = [
     ),
     (&["count", "--times", "H=3", "t"], 1),
     (&["schedule", "--regions", "1", "--width", "2", "t"], 1),
+    (&["coarse", "--regions", "1", "--width", "2", "t"], 1),
     (&["expand", "h"], 1),
     (&["check", "f", "s"], 2),
     (&["open", "t"], 1),
@@ -42,7 +43,7 @@ pub const REQUESTS: [(&[&str], u64); 10] = [
 ];
 
 /// Requests that are refused, with the fault line and the status.
-pub const REFUSED: [(&[&str], &str, u8); 7] = [
+pub const REFUSED: [(&[&str], &str, u8); 8] = [
     (&["flat"], "scaff: Usage\n", 2),
     (&["flat", "none"], "scaff: ReadFault\n", 3),
     (&["flat", "--kinds", "e"], "scaff: NoMain\n", 1),
@@ -56,6 +57,11 @@ pub const REFUSED: [(&[&str], &str, u8); 7] = [
     (
         &["schedule", "--regions", "1", "--width", "1", "p"],
         "scaff: Narrow 1\n",
+        2,
+    ),
+    (
+        &["coarse", "--regions", "1", "--width", "1", "p"],
+        "scaff: NarrowItem 0 2\n",
         2,
     ),
 ];
